@@ -1,0 +1,5 @@
+pub mod Hex
+pub mod LookUps
+pub mod TableRows
+pub mod Texts
+pub mod Words
