@@ -1,0 +1,12 @@
+-- What is gone from the rest was written, and no write failed.
+use Rattle.std.proofs.Common.{◌≡◌, ◌++◌, length, List, ℕ}
+use Rattle.std.specs.Io.KnownBytes.{Appends}
+use Rattle.ix_io.proofs.transfer.write_all.Given as goal
+
+abbrev pub invariant-loop-rest : goal.invariant-loop-rest
+invariant-loop-rest g l =
+    (done : List ℕ) × (l.bytes ≡ done ++ l.rest) × Appends (g.K.Sink.contents l.initial.sink) (g.K.Sink.contents l.sink) done
+    × (g.K.Sink.faults l.sink ≡ g.K.Sink.faults l.initial.sink)
+
+abbrev pub decreases-loop-rest : goal.decreases-loop-rest
+decreases-loop-rest g l = length l.rest
