@@ -1,0 +1,10 @@
+pub mod Fresh
+pub mod KeptLemmas
+pub mod Left
+pub mod Listing
+pub mod Possible
+pub mod Rows
+pub mod Since
+pub mod Sorted
+pub mod Steps
+pub mod Values

@@ -1,0 +1,5 @@
+use Rattle.ix_dir.proofs.Since.{last_stands}
+use Rattle.ix_dir.proofs.laws.last_value_stands.Goals as goal
+
+pub returns : goal.returns
+returns c moves area name = last_stands moves area name

@@ -1,0 +1,5 @@
+use Rattle.ix_dir.proofs.Since.{standing_image}
+use Rattle.ix_dir.proofs.laws.standing_is_image.Goals as goal
+
+pub returns : goal.returns
+returns c moves = standing_image moves

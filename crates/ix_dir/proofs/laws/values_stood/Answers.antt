@@ -1,0 +1,5 @@
+use Rattle.ix_dir.proofs.Since.{all_stood}
+use Rattle.ix_dir.proofs.laws.values_stood.Goals as goal
+
+pub returns : goal.returns
+returns c moves area name value there = all_stood moves area name value there

@@ -1,0 +1,11 @@
+pub mod Calls
+pub mod Crash
+pub mod Files
+pub mod Images
+pub mod InMemory
+pub mod Kept
+pub mod Moments
+pub mod Moves
+pub mod PlacedValues
+pub mod Places
+pub mod Stamps

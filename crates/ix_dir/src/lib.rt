@@ -1,0 +1,22 @@
+//! A directory of two areas, with what a crash may leave of it: the trait, and a directory in memory.
+#![tactic(auto)]
+
+mod area;
+mod crash;
+mod dir;
+pub mod laws;
+mod memory;
+mod moves;
+mod pick;
+mod places;
+mod steady;
+
+pub use area::Area;
+pub use dir::{Dir, DirError, Listed};
+pub use memory::MemoryDir;
+pub use moves::Move;
+pub use pick::Pick;
+pub use steady::SteadyDir;
+
+#[cfg(test)]
+mod tests;
