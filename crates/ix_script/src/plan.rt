@@ -1,0 +1,79 @@
+//! The steps of a lane, and the described compile jobs among them. Symbols are named by their USRs.
+use ix_types::{Kind, Lang, Props, Query, Roles, Seq, Text};
+
+/// One step of a lane.
+#[derive(Drop)]
+pub enum Step {
+    /// Writes the records of a compile job, and then its unit.
+    Build(UnitPlan),
+    /// Looks for units that came or went, and makes a version of those that are there.
+    Poll,
+    /// Takes up the newest version.
+    Refresh,
+    /// Asks the version that the lane holds.
+    Ask(Query),
+}
+
+/// What one compile job knows: its output, what it depends on, and its includes.
+#[derive(Drop)]
+pub struct UnitPlan {
+    pub output: Text,
+    pub main: Text,
+    pub module: Text,
+    pub system: bool,
+    pub units: Seq<Text>,
+    pub records: Seq<RecordPlan>,
+    pub files: Seq<FilePlan>,
+    pub includes: Seq<IncludePlan>,
+}
+
+/// What is known of one source file.
+#[derive(Drop)]
+pub struct RecordPlan {
+    pub path: Text,
+    pub system: bool,
+    pub symbols: Seq<SymbolPlan>,
+    pub occurrences: Seq<OccurrencePlan>,
+}
+
+/// A file that a job read and that has no record.
+#[derive(Drop)]
+pub struct FilePlan {
+    pub path: Text,
+    pub system: bool,
+}
+
+/// An include at a line, counted from 1.
+#[derive(Drop)]
+pub struct IncludePlan {
+    pub from: Text,
+    pub line: u32,
+    pub to: Text,
+}
+
+/// A symbol of a source file.
+#[derive(Drop)]
+pub struct SymbolPlan {
+    pub usr: Text,
+    pub name: Text,
+    pub kind: Kind,
+    pub lang: Lang,
+    pub props: Props,
+}
+
+/// A place where a symbol stands. Lines and columns count from 1.
+#[derive(Drop)]
+pub struct OccurrencePlan {
+    pub usr: Text,
+    pub line: u32,
+    pub col: u32,
+    pub roles: Roles,
+    pub relations: Seq<RelationPlan>,
+}
+
+/// What another symbol is to an occurrence's.
+#[derive(Drop)]
+pub struct RelationPlan {
+    pub usr: Text,
+    pub roles: Roles,
+}
