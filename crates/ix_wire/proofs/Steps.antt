@@ -1,0 +1,58 @@
+-- Steps of a reader, and places between fields.
+use Rattle.std.proofs.Common.{◌≡◌, ℕ, ◌+◌, ◌<◌, Bool, true, false, cond, List, ◌++◌, length, get_or, take, Result, Ok, Err, refl, sym, ap, ◌∙◌, append_assoc, arith, inl, inr}
+use Rattle.std.proofs.lemmas.Bool.{cases_lt}
+use Rattle.std.proofs.lemmas.List.{length-append, length-take, get_or-take, get_or-append-add, get_or_past}
+use Rattle.ix_wire.specs.declared.fault.WireError.{WireError}
+use Rattle.ix_wire.specs.Input.{Input}
+use Rattle.ix_wire.specs.Laws.{PassesJoin, PassesSplit, PassesBytes}
+use Rattle.ix_wire.specs.Reading.{Read, ◌>>=◌}
+use Rattle.ix_wire.specs.Spelling.{IsBytes}
+
+pub IsBytes-take : (n : ℕ) (bytes : List ℕ) → IsBytes bytes → IsBytes (take n bytes)
+IsBytes-take n bytes h i =
+    elim (cases_lt i n) [
+      | inl lt ↦ rw (get_or-take n bytes i 0 lt) (h i)
+      | inr le ↦ rw (get_or_past (take n bytes) i 0 (omega (arith, length-take n bytes))) (omega arith)
+    ]
+
+-- the value of a step that did not fail
+pub bind_ok : {A B : Type 0} (r : Read A) (f : A × Input → Read B) (y : B × Input) → (r >>= f) ≡ Ok y → (x : A × Input) × (r ≡ Ok x) × (f x ≡ Ok y)
+bind_ok (Ok x) f y e = (x, refl, e)
+bind_ok (Err d) f y e = absurd cc
+
+-- a test that did not fail
+pub guard_ok : {A : Type 0} (b : Bool) (d : WireError) (x : Result A WireError) (y : A) → cond b (Err d) x ≡ Ok y → (b ≡ false) × (x ≡ Ok y)
+guard_ok true d x y e = absurd cc
+guard_ok false d x y e = (refl, e)
+
+pub guard_true : {A : Type 0} (b : Bool) (d : WireError) (x : Result A WireError) (y : A) → cond b x (Err d) ≡ Ok y → (b ≡ true) × (x ≡ Ok y)
+guard_true true d x y e = (refl, e)
+guard_true false d x y e = absurd cc
+
+abbrev pub done : {A : Type 0} → A × Input → Read A
+done x = Ok x
+
+ok_is : {A : Type 0} (x y : A × Input) → done x ≡ done y → x ≡ y
+ok_is x y e = cc
+
+-- one read gives one value
+pub read_is : {A : Type 0} {m n : A} {a b : Input} → done (m, a) ≡ done (n, b) → (m ≡ n) × (a ≡ b)
+read_is {A} {m} {n} {a} {b} e =
+    let p = ok_is (m, a) (n, b) e in
+    (ap (λ (q : A × Input). q.0) p, ap (λ (q : A × Input). q.1) p)
+
+pub passes_join : PassesJoin
+passes_join from mid to a b p q = record {
+  parts = p.parts ∙ ap (λ (t : List ℕ). a ++ t) q.parts ∙ sym (append_assoc a b to.rest);
+  moved = omega (arith, p.moved, q.moved, length-append a b);
+}
+
+pub passes_split : PassesSplit
+passes_split from to a b p =
+    let mid : Input = record { at = from.at + length a; rest = b ++ to.rest } in
+    (mid, record { parts = p.parts ∙ append_assoc a b to.rest; moved = refl }, record { parts = refl; moved = omega (arith, p.moved, length-append a b) })
+
+pub passes_bytes : PassesBytes
+passes_bytes from to a bytes p i =
+    let e : get_or (a ++ to.rest) (length a + i) 0 < 256 = rw (← p.parts) (bytes (length a + i)) in
+    rw (get_or-append-add a to.rest i 0) at e
