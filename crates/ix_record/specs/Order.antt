@@ -1,0 +1,34 @@
+-- The order of symbols, relations and occurrences.
+use Rattle.std.specs.Prelude.{◌-◌, List, length, slice_get, Bool, true, Option, Some, None}
+use Rattle.std.specs.declared.cmp.Ordering.{Ordering}
+use Rattle.std.specs.Ordering.{nat_cmp, on, then_cmp, is_lt}
+use Rattle.std.specs.Cmp.Lexicographic.{slice_cmp}
+use Rattle.ix_record.specs.declared.value.Symbol.{Symbol}
+use Rattle.ix_record.specs.declared.value.Relation.{Relation}
+use Rattle.ix_record.specs.declared.value.Occurrence.{Occurrence}
+
+-- by USR, whose bytes are compared one after the other, a proper prefix being the smaller
+abbrev pub symbol_cmp : Symbol → Symbol → Ordering
+symbol_cmp = on (λ s. s.usr) (slice_cmp nat_cmp)
+
+-- by symbol and roles
+abbrev pub relation_cmp : Relation → Relation → Ordering
+relation_cmp = then_cmp (on (λ r. r.symbol) nat_cmp) (on (λ r. r.roles) nat_cmp)
+
+-- by line, column, symbol, roles and the lists of relations, pair by pair, a proper prefix being the smaller
+abbrev pub occurrence_cmp : Occurrence → Occurrence → Ordering
+occurrence_cmp =
+    then_cmp (on (λ o. o.line) nat_cmp)
+    (then_cmp (on (λ o. o.column) nat_cmp)
+    (then_cmp (on (λ o. o.symbol) nat_cmp)
+    (then_cmp (on (λ o. o.roles) nat_cmp)
+    (on (λ o. o.relations) (slice_cmp relation_cmp)))))
+
+-- the last of a list
+abbrev pub last_of : {X : Type 0} → List X → Option X
+last_of xs = slice_get xs (length xs - 1)
+
+-- whether the next is greater than the last, if there is one
+abbrev pub may_follow : {X : Type 0} → (X → X → Ordering) → Option X → X → Bool
+may_follow cmp None next = true
+may_follow cmp (Some last) next = is_lt (cmp last next)

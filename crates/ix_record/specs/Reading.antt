@@ -1,0 +1,167 @@
+-- Reading a record field by field, up to the first fault.
+use Rattle.std.specs.Prelude.{ℕ, zero, suc, ◌^◌, ◌==◌, ◌&&◌, nat_lt, if◌then◌else◌, List, [], ◌∷◌, length, Bool, true, false, Option, Some, None, Result, Ok, Err, bit_and}
+use Rattle.std.specs.declared.cmp.Ordering.{Ordering}
+use Rattle.std.specs.List.{list_all}
+use Rattle.ix_types.specs.Codes.{has_code, kinds, langs, relation_bits}
+use Rattle.ix_wire.specs.declared.fault.WireError.{WireError}
+use Rattle.ix_wire.specs.Input.{Input}
+use Rattle.ix_wire.specs.Reading.{u32_at, text_at}
+use Rattle.ix_record.specs.declared.fault.RecordError.{RecordError}
+use Rattle.ix_record.specs.declared.fault.RecordError.TheVariants.{BadMagic, BadField, OutOfOrder, BadIndex, RolesMissing, Trailing}
+use Rattle.ix_record.specs.declared.value.Symbol.{Symbol}
+use Rattle.ix_record.specs.declared.value.Relation.{Relation}
+use Rattle.ix_record.specs.declared.value.Occurrence.{Occurrence}
+use Rattle.ix_record.specs.declared.value.RecordValue.{RecordValue}
+use Rattle.ix_record.specs.Fault.{record_error}
+use Rattle.ix_record.specs.Order.{symbol_cmp, relation_cmp, occurrence_cmp, may_follow}
+
+-- a value and what is left, or the first fault
+abbrev pub Read : Type 0 → Type 0
+Read A = Result (A × Input) RecordError
+
+infixl 10 ◌>>=◌
+abbrev pub ◌>>=◌ : {A B : Type 0} → Read A → (A × Input → Read B) → Read B
+(Ok x) >>= f = f x
+(Err e) >>= f = Err e
+
+-- a field's fault is the record's
+abbrev pub of_field : {A : Type 0} → Result (A × Input) WireError → Read A
+of_field (Ok x) = Ok x
+of_field (Err e) = Err (record_error e)
+
+unfoldable pub number_at : Input → Read ℕ
+number_at from = of_field (u32_at from)
+
+unfoldable pub usr_at : Input → Read (List ℕ)
+usr_at from = of_field (text_at false from)
+
+unfoldable pub name_at : Input → Read (List ℕ)
+name_at from = of_field (text_at true from)
+
+-- ---- numbers that not every number may be
+
+-- IXR1 as a number
+abbrev pub is_magic : ℕ → Bool
+is_magic n = n == 0x4958_5231
+
+unfoldable pub is_kind : ℕ → Bool
+is_kind n = has_code kinds n
+
+unfoldable pub is_lang : ℕ → Bool
+is_lang n = has_code langs n
+
+abbrev pub are_props : ℕ → Bool
+are_props n = nat_lt n (2 ^ 9)
+
+abbrev pub is_place : ℕ → Bool
+is_place n = nat_lt 0 n
+
+abbrev pub is_index : ℕ → ℕ → Bool
+is_index symbols n = nat_lt n symbols
+
+abbrev pub are_roles : ℕ → Bool
+are_roles n = nat_lt 0 n && nat_lt n (2 ^ 19)
+
+abbrev pub are_relations : ℕ → Bool
+are_relations n = nat_lt 0 n && bit_and n relation_bits == n
+
+-- a number that passes the test, or a fault at its place
+abbrev pub field_at : (ℕ → RecordError) → (ℕ → Bool) → Input → Read ℕ
+field_at fault passes from = do
+  n ← number_at from
+  if passes n.0 then Ok n else Err (fault from.at)
+
+unfoldable pub magic_at : Input → Read ℕ
+magic_at = field_at (λ _. BadMagic) is_magic
+
+unfoldable pub kind_at : Input → Read ℕ
+kind_at = field_at BadField is_kind
+
+unfoldable pub lang_at : Input → Read ℕ
+lang_at = field_at BadField is_lang
+
+unfoldable pub props_at : Input → Read ℕ
+props_at = field_at BadField are_props
+
+unfoldable pub place_at : Input → Read ℕ
+place_at = field_at BadField is_place
+
+unfoldable pub index_at : ℕ → Input → Read ℕ
+index_at symbols = field_at BadIndex (is_index symbols)
+
+unfoldable pub roles_at : Input → Read ℕ
+roles_at = field_at BadField are_roles
+
+unfoldable pub relation_roles_at : Input → Read ℕ
+relation_roles_at = field_at BadField are_relations
+
+-- ---- lists
+
+-- So many items, each greater than the one before it. Where one isn't, it is read whole before it is refused.
+unfoldable pub items_at : {X : Type 0} → (Input → Read X) → (X → X → Ordering) → ℕ → Option X → Input → Read (List X)
+items_at read cmp zero before from = Ok ([], from)
+items_at read cmp (suc n) before from = do
+  first ← read from
+  if may_follow cmp before first.0 then (items_at read cmp n (Some first.0) first.1 >>= λ others. Ok (first.0 ∷ others.0, others.1))
+      else Err (OutOfOrder from.at)
+
+-- ---- a record
+
+unfoldable pub symbol_at : Input → Read Symbol
+symbol_at from = do
+  kind ← kind_at from
+  lang ← lang_at kind.1
+  props ← props_at lang.1
+  usr ← usr_at props.1
+  name ← name_at usr.1
+  Ok (record { kind = kind.0; lang = lang.0; props = props.0; usr = usr.0; name = name.0 }, name.1)
+
+unfoldable pub relation_at : ℕ → Input → Read Relation
+relation_at symbols from = do
+  roles ← relation_roles_at from
+  symbol ← index_at symbols roles.1
+  Ok (record { symbol = symbol.0; roles = roles.0 }, symbol.1)
+
+-- the roles have those of each relation
+unfoldable pub has_roles : ℕ → List Relation → Bool
+has_roles roles = list_all (λ r. bit_and roles r.roles == r.roles)
+
+unfoldable pub symbols_at : ℕ → Input → Read (List Symbol)
+symbols_at count = items_at symbol_at symbol_cmp count None
+
+unfoldable pub relations_at : ℕ → ℕ → Input → Read (List Relation)
+relations_at symbols count = items_at (relation_at symbols) relation_cmp count None
+
+unfoldable pub occurrence_at : ℕ → Input → Read Occurrence
+occurrence_at symbols from = do
+  line ← place_at from
+  column ← place_at line.1
+  symbol ← index_at symbols column.1
+  roles ← roles_at symbol.1
+  count ← number_at roles.1
+  relations ← relations_at symbols count.0 count.1
+  if has_roles roles.0 relations.0
+      then Ok (record { line = line.0; column = column.0; symbol = symbol.0; roles = roles.0; relations = relations.0 }, relations.1)
+      else Err (RolesMissing symbol.1.at)
+
+unfoldable pub occurrences_at : ℕ → ℕ → Input → Read (List Occurrence)
+occurrences_at symbols count = items_at (occurrence_at symbols) occurrence_cmp count None
+
+-- all of the bytes
+unfoldable pub record_at : Input → Read RecordValue
+record_at from = do
+  magic ← magic_at from
+  symbol_count ← number_at magic.1
+  symbols ← symbols_at symbol_count.0 symbol_count.1
+  occurrence_count ← number_at symbols.1
+  occurrences ← occurrences_at symbol_count.0 occurrence_count.0 occurrence_count.1
+  if length occurrences.1.rest == 0 then Ok (record { symbols = symbols.0; occurrences = occurrences.0 }, occurrences.1)
+      else Err (Trailing occurrences.1.at)
+
+abbrev pub fault_of : Read RecordValue → Option RecordError
+fault_of (Ok v) = None
+fault_of (Err e) = Some e
+
+-- the first fault of the bytes
+unfoldable pub record_fault : List ℕ → Option RecordError
+record_fault bytes = fault_of (record_at (record { at = 0; rest = bytes }))
