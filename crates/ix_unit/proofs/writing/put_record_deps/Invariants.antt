@@ -1,0 +1,7 @@
+use Rattle.std.proofs.Common.{◌≡◌, ◌++◌, take}
+use Rattle.std.specs.List.{flat_map}
+use Rattle.ix_unit.specs.Spelling.{record_dep_bytes}
+use Rattle.ix_unit.proofs.writing.put_record_deps.Given as goal
+
+abbrev pub invariant-loop-dep : goal.invariant-loop-dep
+invariant-loop-dep l = l.out.items ≡ l.fn.out.items ++ flat_map record_dep_bytes (take l.dep-index l.records)

@@ -1,0 +1,19 @@
+-- What holds of units and their bytes.
+use Rattle.std.specs.Prelude.{◌≡◌, List, ℕ, MatchOption}
+use Rattle.ix_wire.specs.Spelling.{IsBytes}
+use Rattle.ix_unit.specs.declared.value.UnitValue.{UnitValue}
+use Rattle.ix_unit.specs.Reading.{unit_fault}
+use Rattle.ix_unit.specs.Spelling.{UnitSpelling}
+
+-- bytes have a fault exactly where they spell no value
+abbrev pub FaultWhereNothingIsSpelled : Type 0
+FaultWhereNothingIsSpelled =
+    (bytes : List ℕ) → IsBytes bytes → MatchOption (unit_fault bytes) ((v : UnitValue) × UnitSpelling bytes v) (λ _. (v : UnitValue) → UnitSpelling bytes v → ⊥)
+
+-- a value has one spelling
+abbrev pub OneSpelling : Type 0
+OneSpelling = (a b : List ℕ) (v : UnitValue) → UnitSpelling a v → UnitSpelling b v → a ≡ b
+
+-- a spelling has one value
+abbrev pub OneValue : Type 0
+OneValue = (bytes : List ℕ) (v w : UnitValue) → UnitSpelling bytes v → UnitSpelling bytes w → v ≡ w

@@ -1,0 +1,8 @@
+pub mod Fault
+pub mod Gives
+pub mod Kinds
+pub mod Laws
+pub mod Order
+pub mod Reading
+pub mod Spelling
+pub mod Value
