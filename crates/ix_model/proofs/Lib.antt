@@ -1,0 +1,4 @@
+pub mod Definitions
+pub mod Orders
+pub mod Publications
+pub mod SortedSet

@@ -1,0 +1,5 @@
+pub mod Answer
+pub mod Machine
+pub mod Rows
+pub mod SortedSet
+pub mod Units
