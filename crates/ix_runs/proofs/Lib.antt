@@ -1,0 +1,3 @@
+pub mod Enumerated
+pub mod OneLane
+pub mod OneTranscript

@@ -1,0 +1,5 @@
+pub mod Job
+pub mod Lane
+pub mod OneLane
+pub mod Run
+pub mod Text

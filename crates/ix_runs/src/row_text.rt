@@ -1,0 +1,87 @@
+//! The lines of rows.
+ghost use Rattle.std.specs.Prelude.{◌≡◌, ◌++◌, OnOk};
+ghost use Rattle.std.specs.List.{flat_map};
+ghost use Rattle.std.specs.Fmt.{decimal};
+ghost use Rattle.ix_types.specs.Codes.{kinds, langs};
+ghost use Rattle.ix_runs.specs.Text.{tab, newline, word_of, role_names, props_words, relation_field, occurrence_line, row_line};
+
+use crate::append::{append, append_number};
+use crate::words::{append_props, append_roles, kind_word, lang_word};
+use ix_types::{Memory, OccRow, RelRow, Row};
+
+/// Appends the line of a row.
+pub fn append_row(out: &mut Vec<u8>, row: &Row) -> Result<(), Memory>
+    ensures { OnOk result (out.new.items ≡ out.old.items ++ row_line row.now) }
+{
+    match row {
+        Row::Occ(row) => append_occurrence(out, row),
+    }
+}
+
+/// Appends the line of an occurrence.
+fn append_occurrence(out: &mut Vec<u8>, row: &OccRow) -> Result<(), Memory>
+    ensures { OnOk result (out.new.items ≡ out.old.items ++ occurrence_line row.now) }
+{
+    append(out, b"row")?;
+    append_place(out, row)?;
+    append_symbol(out, row)?;
+    append_relations(out, row.relations.as_slice())?;
+    append(out, b"\n")
+}
+
+/// Appends the fields that say where a symbol stands and how.
+fn append_place(out: &mut Vec<u8>, row: &OccRow) -> Result<(), Memory>
+    ensures { OnOk result (out.new.items ≡ out.old.items
+        ++ tab ++ row.now.path ++ tab ++ decimal row.now.line ++ tab ++ decimal row.now.column
+        ++ tab ++ role_names row.now.roles) }
+{
+    append_field(out, row.path.bytes())?;
+    append(out, b"\t")?;
+    append_number(out, u64::from(row.line))?;
+    append(out, b"\t")?;
+    append_number(out, u64::from(row.column))?;
+    append(out, b"\t")?;
+    append_roles(out, row.roles)
+}
+
+/// Appends the fields that say which symbol it is.
+fn append_symbol(out: &mut Vec<u8>, row: &OccRow) -> Result<(), Memory>
+    ensures { OnOk result (out.new.items ≡ out.old.items
+        ++ tab ++ word_of kinds row.now.kind ++ tab ++ word_of langs row.now.lang
+        ++ tab ++ props_words row.now.props ++ tab ++ row.now.usr ++ tab ++ row.now.name) }
+{
+    append_field(out, kind_word(row.kind).as_bytes())?;
+    append_field(out, lang_word(row.lang).as_bytes())?;
+    append(out, b"\t")?;
+    append_props(out, row.props)?;
+    append_field(out, row.usr.bytes())?;
+    append_field(out, row.name.bytes())
+}
+
+/// Appends a tab, and the bytes of a field.
+fn append_field(out: &mut Vec<u8>, field: &[u8]) -> Result<(), Memory>
+    ensures { OnOk result (out.new.items ≡ out.old.items ++ tab ++ field.now) }
+{
+    append(out, b"\t")?;
+    append(out, field)
+}
+
+/// Appends a field for each relation.
+fn append_relations(out: &mut Vec<u8>, relations: &[RelRow]) -> Result<(), Memory>
+    ensures { OnOk result (out.new.items ≡ out.old.items ++ flat_map relation_field relations.now) }
+{
+    for relation in relations {
+        append_relation(out, relation)?;
+    }
+    Ok(())
+}
+
+/// Appends the field of a relation.
+fn append_relation(out: &mut Vec<u8>, relation: &RelRow) -> Result<(), Memory>
+    ensures { OnOk result (out.new.items ≡ out.old.items ++ relation_field relation.now) }
+{
+    append(out, b"\t")?;
+    append_roles(out, relation.roles)?;
+    append(out, b"=")?;
+    append(out, relation.usr.bytes())
+}
