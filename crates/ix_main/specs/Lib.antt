@@ -1,0 +1,4 @@
+pub mod Ending
+pub mod Machine
+pub mod Output
+pub mod Plans
