@@ -1,8 +1,9 @@
 -- A record is read, or its first fault is met.
 use Rattle.std.proofs.Common.{◌≡◌, ℕ, List, Result, Ok, Err, Some, ◌⊎◌, inl, inr, refl, sym, ap, ◌∙◌}
 use Rattle.std.specs.Prelude.{IfOk, IfErr, MatchOption}
-use Rattle.ix_wire.specs.Input.{Input}
+use Rattle.ix_wire.specs.Input.{Input, start}
 use Rattle.ix_wire.specs.Spelling.{IsBytes}
+use Rattle.ix_wire.proofs.Steps.{same_value}
 use Rattle.ix_record.specs.declared.fault.RecordError.{RecordError}
 use Rattle.ix_record.specs.declared.fault.RecordError.TheVariants.{Memory}
 use Rattle.ix_record.specs.declared.value.RecordValue.{RecordValue}
@@ -10,11 +11,7 @@ use Rattle.ix_record.specs.Gives.{Gives}
 use Rattle.ix_record.specs.Laws.{FaultWhereNothingIsSpelled, OneSpelling, OneValue}
 use Rattle.ix_record.specs.Reading.{Read, fault_of, record_at, record_fault}
 use Rattle.ix_record.specs.Spelling.{RecordSpelling}
-use Rattle.ix_record.proofs.Grammar.{start, spelled_is_read, read_was_spelled}
-use Rattle.ix_record.proofs.Readers.{done, done_is}
-
-same_value : (v w : RecordValue) (a b : Input) → done (v, a) ≡ done (w, b) → v ≡ w
-same_value v w a b e = ap (λ (x : RecordValue × Input). x.0) (done_is (v, a) (w, b) e)
+use Rattle.ix_record.proofs.Grammar.{spelled_is_read, read_was_spelled}
 
 pub one_value : OneValue
 one_value bytes v w sv sw =

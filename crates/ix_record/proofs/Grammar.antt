@@ -7,10 +7,13 @@ use Rattle.std.proofs.lemmas.Bool.{and_parts, and_from, eqb-true, eq-eqb}
 use Rattle.std.proofs.lemmas.Cmp.{nat_cmp_total, nat_list_cmp_total, lists_total, on_total, then_total}
 use Rattle.std.proofs.lemmas.List.{append-nil, nil_from_length}
 use Rattle.std.proofs.lemmas.List.Elements.{All-from_recursion, recursion_from_All}
-use Rattle.ix_wire.specs.Input.{Input, Passes}
+use Rattle.ix_wire.specs.Input.{Input, start, Passes}
 use Rattle.ix_wire.specs.Spelling.{IsBytes, u32_bytes, text_bytes}
-use Rattle.ix_wire.proofs.Steps.{passes_join, passes_split}
-use Rattle.ix_record.specs.declared.fault.RecordError.TheVariants.{Trailing}
+use Rattle.ix_wire.proofs.Items.{IsItems, items_reader}
+use Rattle.ix_wire.proofs.Readers.{IsReader, step}
+use Rattle.ix_wire.proofs.Steps.{test_ok, done, done_is, passes_join, passes_split}
+use Rattle.ix_record.specs.declared.fault.RecordError.{RecordError}
+use Rattle.ix_record.specs.declared.fault.RecordError.TheVariants.{OutOfOrder, Trailing}
 use Rattle.ix_record.specs.declared.value.Symbol.{Symbol}
 use Rattle.ix_record.specs.declared.value.Relation.{Relation}
 use Rattle.ix_record.specs.declared.value.Occurrence.{Occurrence}
@@ -19,8 +22,7 @@ use Rattle.ix_record.specs.Order.{symbol_cmp, relation_cmp, occurrence_cmp}
 use Rattle.ix_record.specs.Value.{IsValidSymbol, IsValidRelation, IsValidOccurrence, IsValidRecord, HasRolesOf}
 use Rattle.ix_record.specs.Spelling.{magic_bytes, symbol_bytes, relation_bytes, occurrence_bytes, record_bytes, RecordSpelling}
 use Rattle.ix_record.specs.Reading.{number_at, usr_at, name_at, magic_at, kind_at, lang_at, props_at, place_at, index_at, roles_at, relation_roles_at, has_roles, symbol_at, symbols_at, relation_at, relations_at, occurrence_at, occurrences_at, record_at}
-use Rattle.ix_record.proofs.Readers.{IsReader, done, done_is, test_ok, step, number_reader, usr_reader, name_reader, magic_reader, kind_reader, lang_reader, props_reader, place_reader, index_reader, roles_reader, relation_roles_reader}
-use Rattle.ix_record.proofs.Items.{IsItems, items_reader}
+use Rattle.ix_record.proofs.Readers.{number_reader, usr_reader, name_reader, magic_reader, kind_reader, lang_reader, props_reader, place_reader, index_reader, roles_reader, relation_roles_reader}
 
 -- ---- the orders
 
@@ -74,7 +76,7 @@ symbol_reader = record { is_read = symbol_read; was_spelled = symbol_was_spelled
 
 symbols_reader : (count : ℕ) → IsReader (symbols_at count) (flat_map symbol_bytes) (IsItems IsValidSymbol symbol_cmp count)
 unfolding symbols_at
-symbols_reader = items_reader symbol_at symbol_bytes IsValidSymbol symbol_cmp symbol_reader symbol_order
+symbols_reader = items_reader OutOfOrder symbol_at symbol_bytes IsValidSymbol symbol_cmp symbol_reader symbol_order
 
 -- ---- a relation
 
@@ -99,7 +101,7 @@ relation_reader symbols few = record { is_read = relation_read symbols few; was_
 
 relations_reader : (symbols : ℕ) → symbols < 2 ^ 32 → (count : ℕ) → IsReader (relations_at symbols count) (flat_map relation_bytes) (IsItems (IsValidRelation symbols) relation_cmp count)
 unfolding relations_at
-relations_reader symbols few = items_reader (relation_at symbols) relation_bytes (IsValidRelation symbols) relation_cmp (relation_reader symbols few) relation_order
+relations_reader symbols few = items_reader OutOfOrder (relation_at symbols) relation_bytes (IsValidRelation symbols) relation_cmp (relation_reader symbols few) relation_order
 
 -- ---- an occurrence
 
@@ -151,7 +153,7 @@ occurrence_was_spelled symbols few from to o bytes e =
     let f = step number_at u32_bytes _ number_reader _ d.0.1 (o, to) d.1.bytes d.1.goes_on in
     let g = step (relations_at symbols f.0.0) (flat_map relation_bytes) _ (relations_reader symbols few f.0.0) _ f.0.1 (o, to) f.1.bytes f.1.goes_on in
     let made : Occurrence = record { line = a.0.0; column = b.0.0; symbol = c.0.0; roles = d.0.0; relations = g.0.0 } in
-    let t = test_ok (has_roles d.0.0 g.0.0) _ (done (made, g.0.1)) (o, to) g.1.goes_on in
+    let t = test_ok (has_roles d.0.0 g.0.0) _ (done RecordError (made, g.0.1)) (o, to) g.1.goes_on in
     let ab = passes_join from a.0.1 b.0.1 _ _ a.1.passes b.1.passes in
     let abc = passes_join from b.0.1 c.0.1 _ _ ab c.1.passes in
     let abcd = passes_join from c.0.1 d.0.1 _ _ abc d.1.passes in
@@ -176,7 +178,7 @@ occurrence_reader symbols few = record { is_read = occurrence_read symbols few; 
 
 occurrences_reader : (symbols : ℕ) → symbols < 2 ^ 32 → (count : ℕ) → IsReader (occurrences_at symbols count) (flat_map occurrence_bytes) (IsItems (IsValidOccurrence symbols) occurrence_cmp count)
 unfolding occurrences_at
-occurrences_reader symbols few = items_reader (occurrence_at symbols) occurrence_bytes (IsValidOccurrence symbols) occurrence_cmp (occurrence_reader symbols few) occurrence_order
+occurrences_reader symbols few = items_reader OutOfOrder (occurrence_at symbols) occurrence_bytes (IsValidOccurrence symbols) occurrence_cmp (occurrence_reader symbols few) occurrence_order
 
 -- ---- a whole record
 
@@ -222,7 +224,7 @@ record_was_spelled from to v bytes e =
     let d = step number_at u32_bytes _ number_reader _ c.0.1 (v, to) c.1.bytes c.1.goes_on in
     let f = step (occurrences_at b.0.0 d.0.0) (flat_map occurrence_bytes) _ (occurrences_reader b.0.0 b.1.valid d.0.0) _ d.0.1 (v, to) d.1.bytes d.1.goes_on in
     let made : RecordValue = record { symbols = c.0.0; occurrences = f.0.0 } in
-    let t = test_ok (eqb (length f.0.1.rest) 0) (Trailing f.0.1.at) (done (made, f.0.1)) (v, to) f.1.goes_on in
+    let t = test_ok (eqb (length f.0.1.rest) 0) (Trailing f.0.1.at) (done RecordError (made, f.0.1)) (v, to) f.1.goes_on in
     let ended : f.0.1.rest ≡ [] = nil_from_length f.0.1.rest (eqb-true (length f.0.1.rest) 0 t.0) in
     let magic = magic_passes from a.0.1 a.0.0 a.1.valid a.1.passes in
     let ab = passes_join from a.0.1 b.0.1 _ _ magic b.1.passes in
@@ -239,10 +241,6 @@ record_was_spelled from to v bytes e =
       rising_occurrences = f.1.valid.rising;
     } in
     subst (λ (x : RecordValue × Input). IsValidRecord x.0 × Passes from (record_bytes x.0) x.1 × (x.1.rest ≡ [])) (done_is (made, f.0.1) (v, to) t.1) (valid, whole, ended)
-
--- before the first byte
-abbrev pub start : List ℕ → Input
-start bytes = record { at = 0; rest = bytes }
 
 pub spelled_is_read : (bytes : List ℕ) (v : RecordValue) → RecordSpelling bytes v → (to : Input) × (record_at (start bytes) ≡ Ok (v, to))
 spelled_is_read bytes v spelled =

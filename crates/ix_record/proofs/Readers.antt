@@ -1,112 +1,37 @@
--- A reader, and what it reads where it is spelled: the tools, and the readers of single fields.
-use Rattle.std.proofs.Common.{◌≡◌, ℕ, ◌^◌, ◌<◌, ◌==◌, Bool, true, false, cond, ◌||◌, nat_lt, List, [], ◌∷◌, Option, Some, None, Result, Ok, Err, refl, ap, subst, arith}
-use Rattle.std.specs.Prelude.{IsTrue, is_none, bit_and}
+-- What the single fields read where they are spelled.
+use Rattle.std.proofs.Common.{◌≡◌, ℕ, ◌^◌, ◌<◌, ◌==◌, Bool, true, nat_lt, [], ◌∷◌, refl, arith}
+use Rattle.std.specs.Prelude.{IsTrue, bit_and}
 use Rattle.std.specs.List.{list_all}
 use Rattle.std.proofs.lemmas.Bool.{and_parts, and_from, ltb-true, lt-ltb, eqb-true, eq-eqb}
 use Rattle.std.proofs.lemmas.Nat.{and_le_r}
 use Rattle.ix_types.specs.Codes.{Table, has_code, kinds, langs, relation_bits}
-use Rattle.ix_types.specs.Text.{IsText, IsTextOrEmpty, refusal, refusal_or_empty}
-use Rattle.ix_wire.specs.declared.fault.WireError.{WireError}
-use Rattle.ix_wire.specs.Input.{Input, Passes}
-use Rattle.ix_wire.specs.Reading.{u32_at, text_at, is_text}
-use Rattle.ix_wire.specs.Spelling.{IsBytes, u32_bytes, text_bytes}
-use Rattle.ix_wire.proofs.Fields.{u32_where_spelled, text_where_spelled}
-use Rattle.ix_wire.proofs.Steps.{passes_bytes}
+use Rattle.ix_types.specs.Text.{IsText, IsTextOrEmpty}
+use Rattle.ix_wire.specs.Spelling.{u32_bytes, text_bytes}
+use Rattle.ix_wire.proofs.Readers.{IsReader, IsReader-also, number_field_reader, text_field_reader, any_text_field_reader, tested_reader, either_true}
 use Rattle.ix_record.specs.declared.fault.RecordError.{RecordError}
 use Rattle.ix_record.specs.declared.fault.RecordError.TheVariants.{BadMagic, BadField, BadIndex}
+use Rattle.ix_record.specs.Fault.{record_error}
 use Rattle.ix_record.specs.Value.{IsPlace}
-use Rattle.ix_record.specs.Reading.{Read, ◌>>=◌, of_field, number_at, usr_at, name_at, field_at, is_magic, magic_at, is_kind, kind_at, is_lang, lang_at, are_props, props_at, is_place, place_at, is_index, index_at, are_roles, roles_at, are_relations, relation_roles_at}
-
--- what is spelled is read, and what was read was spelled there
-pub record IsReader {X : Type 0} (read : Input → Read X) (spelling : X → List ℕ) (IsValid : X → Type 0) : Type 0 where
-  pub is_read : (from to : Input) (x : X) → IsValid x → Passes from (spelling x) to → read from ≡ Ok (x, to)
-  pub was_spelled : (from to : Input) (x : X) → IsBytes from.rest → read from ≡ Ok (x, to) → IsValid x × Passes from (spelling x) to
-
--- the same values under another word
-pub IsReader-also : {X : Type 0} (read : Input → Read X) (spelling : X → List ℕ) (P Q : X → Type 0) → ((x : X) → P x → Q x) → ((x : X) → Q x → P x) → IsReader read spelling P → IsReader read spelling Q
-IsReader-also read spelling P Q there back r = record {
-  is_read = λ from to x q passes. r.is_read from to x (back x q) passes;
-  was_spelled = λ from to x bytes e. let h = r.was_spelled from to x bytes e in (there x h.0, h.1);
-}
-
--- ---- steps that did not fail
-
-abbrev pub done : {A : Type 0} → A × Input → Read A
-done x = Ok x
-
-pub done_is : {A : Type 0} (x y : A × Input) → done x ≡ done y → x ≡ y
-done_is x y e = cc
-
-pub bind_ok : {A B : Type 0} (r : Read A) (f : A × Input → Read B) (y : B × Input) → (r >>= f) ≡ Ok y → (x : A × Input) × (r ≡ Ok x) × (f x ≡ Ok y)
-bind_ok (Ok x) f y e = (x, refl, e)
-bind_ok (Err d) f y e = absurd cc
-
-pub test_ok : {A : Type 0} (b : Bool) (d : RecordError) (x : Read A) (y : A × Input) → cond b x (Err d) ≡ Ok y → (b ≡ true) × (x ≡ Ok y)
-test_ok true d x y e = (refl, e)
-test_ok false d x y e = absurd cc
-
--- what a step read, and that the next ones did not fail
-pub record IsStep {X Y : Type 0} (spelling : X → List ℕ) (IsValid : X → Type 0) (next : X × Input → Read Y) (from : Input) (y : Y × Input) (x : X × Input) : Type 0 where
-  pub valid : IsValid x.0
-  pub passes : Passes from (spelling x.0) x.1
-  pub bytes : IsBytes x.1.rest
-  pub goes_on : next x ≡ Ok y
-
-pub step : {X Y : Type 0} (read : Input → Read X) (spelling : X → List ℕ) (IsValid : X → Type 0) → IsReader read spelling IsValid → (next : X × Input → Read Y) (from : Input) (y : Y × Input) → IsBytes from.rest
-    → (read from >>= next) ≡ Ok y → (x : X × Input) × IsStep spelling IsValid next from y x
-step read spelling IsValid reader next from y bytes e =
-    let b = bind_ok (read from) next y e in
-    let h = reader.was_spelled from b.0.1 b.0.0 bytes b.1 in
-    (b.0, record { valid = h.0; passes = h.1; bytes = passes_bytes from b.0.1 (spelling b.0.0) bytes h.1; goes_on = b.2 })
+use Rattle.ix_record.specs.Reading.{number_at, usr_at, name_at, field_at, is_magic, magic_at, is_kind, kind_at, is_lang, lang_at, are_props, props_at, is_place, place_at, is_index, index_at, are_roles, roles_at, are_relations, relation_roles_at}
 
 -- ---- plain fields
 
-of_field_ok : {A : Type 0} (r : Result (A × Input) WireError) (y : A × Input) → of_field r ≡ Ok y → r ≡ Ok y
-of_field_ok (Ok x) y e = ap (λ z. Ok z) (done_is x y e)
-of_field_ok (Err d) y e = absurd cc
-
 pub number_reader : IsReader number_at u32_bytes (λ n. n < 2 ^ 32)
 unfolding number_at
-number_reader = record {
-  is_read = λ from to n lt passes. rw (u32_where_spelled.is_read from to n lt passes) refl;
-  was_spelled = λ from to n bytes e. u32_where_spelled.was_spelled from to n bytes (of_field_ok (u32_at from) (n, to) e);
-}
-
-none_from_test : {A : Type 0} (o : Option A) → is_none o ≡ true → o ≡ None
-none_from_test None e = refl
-none_from_test (Some x) e = absurd cc
-
-test_from_none : {A : Type 0} (o : Option A) → o ≡ None → is_none o ≡ true
-test_from_none o e = rw e refl
+number_reader = number_field_reader record_error
 
 pub usr_reader : IsReader usr_at text_bytes IsText
-unfolding usr_at is_text
-usr_reader = record {
-  is_read = λ from to t valid passes. rw (text_where_spelled.is_read false from to t (test_from_none (refusal t) valid) passes) refl;
-  was_spelled = λ from to t bytes e. let h = text_where_spelled.was_spelled false from to t bytes (of_field_ok (text_at false from) (t, to) e) in (none_from_test (refusal t) h.0, h.1);
-}
+unfolding usr_at
+usr_reader = text_field_reader record_error
 
 pub name_reader : IsReader name_at text_bytes IsTextOrEmpty
-unfolding name_at is_text
-name_reader = record {
-  is_read = λ from to t valid passes. rw (text_where_spelled.is_read true from to t (test_from_none (refusal_or_empty t) valid) passes) refl;
-  was_spelled = λ from to t bytes e. let h = text_where_spelled.was_spelled true from to t bytes (of_field_ok (text_at true from) (t, to) e) in (none_from_test (refusal_or_empty t) h.0, h.1);
-}
+unfolding name_at
+name_reader = any_text_field_reader record_error
 
 -- ---- numbers that pass a test
 
 field_reader : (fault : ℕ → RecordError) (passes : ℕ → Bool) → IsReader (field_at fault passes) u32_bytes (λ n. (n < 2 ^ 32) × (passes n ≡ true))
-field_reader fault passes = record {
-  is_read = λ from to n valid there. rw (number_reader.is_read from to n valid.0 there, valid.1) refl;
-  was_spelled = λ from to n bytes e.
-      let s = step number_at u32_bytes (λ m. m < 2 ^ 32) number_reader (λ m. cond (passes m.0) (Ok m) (Err (fault from.at))) from (n, to) bytes e in
-      let t = test_ok (passes s.0.0) (fault from.at) (Ok s.0) (n, to) s.1.goes_on in
-      subst (λ (m : ℕ × Input). ((m.0 < 2 ^ 32) × (passes m.0 ≡ true)) × Passes from (u32_bytes m.0) m.1) (done_is s.0 (n, to) t.1) ((s.1.valid, t.0), s.1.passes);
-}
-
-either_true : {P : Type 0} (a b : Bool) → (a || b) ≡ true → (a ≡ true → P) → (b ≡ true → P) → P
-either_true true b e p q = p refl
-either_true false b e p q = q e
+field_reader fault passes = tested_reader number_at u32_bytes (λ n. n < 2 ^ 32) fault passes number_reader
 
 -- the codes of a table are as small as its rows'
 code_is_small : (table : Table) (limit code : ℕ) → list_all (λ row. nat_lt row.0 limit) table ≡ true → has_code table code ≡ true → code < limit

@@ -1,7 +1,6 @@
 -- The order of symbols, relations and occurrences.
-use Rattle.std.specs.Prelude.{◌-◌, List, length, slice_get, Bool, true, Option, Some, None}
 use Rattle.std.specs.declared.cmp.Ordering.{Ordering}
-use Rattle.std.specs.Ordering.{nat_cmp, on, then_cmp, is_lt}
+use Rattle.std.specs.Ordering.{nat_cmp, on, then_cmp}
 use Rattle.std.specs.Cmp.Lexicographic.{slice_cmp}
 use Rattle.ix_record.specs.declared.value.Symbol.{Symbol}
 use Rattle.ix_record.specs.declared.value.Relation.{Relation}
@@ -23,12 +22,3 @@ occurrence_cmp =
     (then_cmp (on (λ o. o.symbol) nat_cmp)
     (then_cmp (on (λ o. o.roles) nat_cmp)
     (on (λ o. o.relations) (slice_cmp relation_cmp)))))
-
--- the last of a list
-abbrev pub last_of : {X : Type 0} → List X → Option X
-last_of xs = slice_get xs (length xs - 1)
-
--- whether the next is greater than the last, if there is one
-abbrev pub may_follow : {X : Type 0} → (X → X → Ordering) → Option X → X → Bool
-may_follow cmp None next = true
-may_follow cmp (Some last) next = is_lt (cmp last next)

@@ -1,11 +1,11 @@
 -- Reading a record field by field, up to the first fault.
-use Rattle.std.specs.Prelude.{ℕ, zero, suc, ◌^◌, ◌==◌, ◌&&◌, nat_lt, if◌then◌else◌, List, [], ◌∷◌, length, Bool, true, false, Option, Some, None, Result, Ok, Err, bit_and}
-use Rattle.std.specs.declared.cmp.Ordering.{Ordering}
+use Rattle.std.specs.Prelude.{ℕ, ◌^◌, ◌==◌, ◌&&◌, nat_lt, if◌then◌else◌, List, length, Bool, Option, Some, None, Ok, Err, bit_and}
 use Rattle.std.specs.List.{list_all}
 use Rattle.ix_types.specs.Codes.{has_code, kinds, langs, relation_bits}
-use Rattle.ix_wire.specs.declared.fault.WireError.{WireError}
+use Rattle.ix_wire.specs.Grammar.{number_field, text_field, any_text_field, tested_at, items_at}
 use Rattle.ix_wire.specs.Input.{Input}
-use Rattle.ix_wire.specs.Reading.{u32_at, text_at}
+use Rattle.ix_wire.specs.Read.{◌>>=◌}
+use Rattle.ix_wire.specs.Read as wire
 use Rattle.ix_record.specs.declared.fault.RecordError.{RecordError}
 use Rattle.ix_record.specs.declared.fault.RecordError.TheVariants.{BadMagic, BadField, OutOfOrder, BadIndex, RolesMissing, Trailing}
 use Rattle.ix_record.specs.declared.value.Symbol.{Symbol}
@@ -13,30 +13,20 @@ use Rattle.ix_record.specs.declared.value.Relation.{Relation}
 use Rattle.ix_record.specs.declared.value.Occurrence.{Occurrence}
 use Rattle.ix_record.specs.declared.value.RecordValue.{RecordValue}
 use Rattle.ix_record.specs.Fault.{record_error}
-use Rattle.ix_record.specs.Order.{symbol_cmp, relation_cmp, occurrence_cmp, may_follow}
+use Rattle.ix_record.specs.Order.{symbol_cmp, relation_cmp, occurrence_cmp}
 
 -- a value and what is left, or the first fault
 abbrev pub Read : Type 0 → Type 0
-Read A = Result (A × Input) RecordError
-
-infixl 10 ◌>>=◌
-abbrev pub ◌>>=◌ : {A B : Type 0} → Read A → (A × Input → Read B) → Read B
-(Ok x) >>= f = f x
-(Err e) >>= f = Err e
-
--- a field's fault is the record's
-abbrev pub of_field : {A : Type 0} → Result (A × Input) WireError → Read A
-of_field (Ok x) = Ok x
-of_field (Err e) = Err (record_error e)
+Read = wire.Read RecordError
 
 unfoldable pub number_at : Input → Read ℕ
-number_at from = of_field (u32_at from)
+number_at = number_field record_error
 
 unfoldable pub usr_at : Input → Read (List ℕ)
-usr_at from = of_field (text_at false from)
+usr_at = text_field record_error
 
 unfoldable pub name_at : Input → Read (List ℕ)
-name_at from = of_field (text_at true from)
+name_at = any_text_field record_error
 
 -- ---- numbers that not every number may be
 
@@ -67,9 +57,7 @@ are_relations n = nat_lt 0 n && bit_and n relation_bits == n
 
 -- a number that passes the test, or a fault at its place
 abbrev pub field_at : (ℕ → RecordError) → (ℕ → Bool) → Input → Read ℕ
-field_at fault passes from = do
-  n ← number_at from
-  if passes n.0 then Ok n else Err (fault from.at)
+field_at = tested_at number_at
 
 unfoldable pub magic_at : Input → Read ℕ
 magic_at = field_at (λ _. BadMagic) is_magic
@@ -95,16 +83,6 @@ roles_at = field_at BadField are_roles
 unfoldable pub relation_roles_at : Input → Read ℕ
 relation_roles_at = field_at BadField are_relations
 
--- ---- lists
-
--- So many items, each greater than the one before it. Where one isn't, it is read whole before it is refused.
-unfoldable pub items_at : {X : Type 0} → (Input → Read X) → (X → X → Ordering) → ℕ → Option X → Input → Read (List X)
-items_at read cmp zero before from = Ok ([], from)
-items_at read cmp (suc n) before from = do
-  first ← read from
-  if may_follow cmp before first.0 then (items_at read cmp n (Some first.0) first.1 >>= λ others. Ok (first.0 ∷ others.0, others.1))
-      else Err (OutOfOrder from.at)
-
 -- ---- a record
 
 unfoldable pub symbol_at : Input → Read Symbol
@@ -127,10 +105,10 @@ unfoldable pub has_roles : ℕ → List Relation → Bool
 has_roles roles = list_all (λ r. bit_and roles r.roles == r.roles)
 
 unfoldable pub symbols_at : ℕ → Input → Read (List Symbol)
-symbols_at count = items_at symbol_at symbol_cmp count None
+symbols_at count = items_at OutOfOrder symbol_at symbol_cmp count None
 
 unfoldable pub relations_at : ℕ → ℕ → Input → Read (List Relation)
-relations_at symbols count = items_at (relation_at symbols) relation_cmp count None
+relations_at symbols count = items_at OutOfOrder (relation_at symbols) relation_cmp count None
 
 unfoldable pub occurrence_at : ℕ → Input → Read Occurrence
 occurrence_at symbols from = do
@@ -145,7 +123,7 @@ occurrence_at symbols from = do
       else Err (RolesMissing symbol.1.at)
 
 unfoldable pub occurrences_at : ℕ → ℕ → Input → Read (List Occurrence)
-occurrences_at symbols count = items_at (occurrence_at symbols) occurrence_cmp count None
+occurrences_at symbols count = items_at OutOfOrder (occurrence_at symbols) occurrence_cmp count None
 
 -- all of the bytes
 unfoldable pub record_at : Input → Read RecordValue

@@ -1,6 +1,7 @@
 //! The order of symbols, relations and occurrences.
 ghost use Rattle.std.specs.Prelude.{◌≡◌};
-ghost use Rattle.ix_record.specs.Order.{symbol_cmp, relation_cmp, occurrence_cmp, last_of, may_follow};
+ghost use Rattle.ix_record.specs.Order.{symbol_cmp, relation_cmp, occurrence_cmp};
+ghost use Rattle.ix_wire.specs.Grammar.{last_of, may_follow};
 
 use crate::value::{Occurrence, Relation, Symbol};
 

@@ -3,8 +3,9 @@ use Rattle.std.proofs.Common.{◌≡◌, ℕ, ◌+◌, ◌≤◌, List, ◌++◌
 use Rattle.std.specs.Prelude.{MatchOption}
 use Rattle.std.proofs.lemmas.List.{length-append}
 use Rattle.sha2.specs.Sha256.{sha256}
-use Rattle.ix_wire.specs.Input.{Input, Passes}
+use Rattle.ix_wire.specs.Input.{Input, start, Passes}
 use Rattle.ix_wire.specs.Spelling.{IsBytes}
+use Rattle.ix_wire.proofs.Steps.{same_value}
 use Rattle.ix_unit.specs.declared.fault.UnitError.{UnitError}
 use Rattle.ix_unit.specs.declared.fault.UnitError.TheVariants.{Memory}
 use Rattle.ix_unit.specs.declared.value.UnitValue.{UnitValue}
@@ -13,12 +14,7 @@ use Rattle.ix_unit.specs.Laws.{FaultWhereNothingIsSpelled, OneSpelling, OneValue
 use Rattle.ix_unit.specs.Reading.{Read, fault_of, unit_fields_at, seal_fault, unit_fault}
 use Rattle.ix_unit.specs.Spelling.{unit_bytes, UnitSpelling}
 use Rattle.ix_unit.proofs.Grammar.{unit_read, unit_was_spelled}
-use Rattle.ix_unit.proofs.Readers.{done, done_is}
 use Rattle.ix_unit.proofs.Seal.{sealed, was_sealed}
-
--- before the first byte
-abbrev pub start : List ℕ → Input
-start bytes = record { at = 0; rest = bytes }
 
 -- the value is read, and the digest stands behind it
 abbrev pub IsRead : List ℕ → UnitValue → Input → Type 0
@@ -45,9 +41,6 @@ place_is_inside bytes v to fits read =
     let h = unit_was_spelled (start bytes) to v fits read in
     let len : length bytes ≡ length (unit_bytes v ++ to.rest) = ap (λ (bs : List ℕ). length bs) h.1.parts in
     omega (arith, h.1.moved, len, length-append (unit_bytes v) to.rest)
-
-pub same_value : (v w : UnitValue) (a b : Input) → done (v, a) ≡ done (w, b) → v ≡ w
-same_value v w a b e = ap (λ (x : UnitValue × Input). x.0) (done_is (v, a) (w, b) e)
 
 pub one_value : OneValue
 one_value bytes v w sv sw =

@@ -8,10 +8,14 @@ use Rattle.std.proofs.lemmas.Cmp.{nat_cmp_total, nat_list_cmp_total, on_total, t
 use Rattle.std.proofs.lemmas.List.Elements.{All-from_recursion, recursion_from_All}
 use Rattle.ix_types.specs.Text.{IsText, IsTextOrEmpty}
 use Rattle.ix_wire.specs.Input.{Input, Passes}
+use Rattle.ix_wire.specs.Read.{◌>>=◌}
 use Rattle.ix_wire.specs.Spelling.{IsBytes, u32_bytes, text_bytes}
-use Rattle.ix_wire.proofs.Steps.{passes_join, passes_split}
+use Rattle.ix_wire.proofs.Items.{IsItems, items_reader}
+use Rattle.ix_wire.proofs.Readers.{IsReader, step}
+use Rattle.ix_wire.proofs.Steps.{done_is, passes_join, passes_split}
 use Rattle.ix_unit.specs.declared.dependency.Dependency.{Dependency}
 use Rattle.ix_unit.specs.declared.dependency.Dependency.TheVariants.{Unit, Record, File}
+use Rattle.ix_unit.specs.declared.fault.UnitError.TheVariants.{OutOfOrder}
 use Rattle.ix_unit.specs.declared.value.RecordDep.{RecordDep}
 use Rattle.ix_unit.specs.declared.value.FileDep.{FileDep}
 use Rattle.ix_unit.specs.declared.value.Include.{Include}
@@ -20,10 +24,9 @@ use Rattle.ix_unit.specs.Kinds.{as_unit, as_record, as_file}
 use Rattle.ix_unit.specs.Order.{dependency_cmp, include_cmp}
 use Rattle.ix_unit.specs.Value.{IsValidRecordDep, IsValidFileDep, IsValidInclude, IsValidUnit, dependency_count}
 use Rattle.ix_unit.specs.Spelling.{magic_bytes, flag_bytes, unit_dep_bytes, record_dep_bytes, file_dep_bytes, include_bytes, unit_bytes}
-use Rattle.ix_unit.specs.Reading.{Read, ◌>>=◌, number_at, path_at, any_text_at, magic_at, flag_at, line_at, name_at, record_dep_at, file_dep_at, dependency_of, dependency_at, dependencies_at, include_at, includes_at, unit_fields_at}
-use Rattle.ix_unit.proofs.Items.{IsItems, items_reader}
+use Rattle.ix_unit.specs.Reading.{Read, number_at, path_at, any_text_at, magic_at, flag_at, line_at, name_at, record_dep_at, file_dep_at, dependency_of, dependency_at, dependencies_at, include_at, includes_at, unit_fields_at}
 use Rattle.ix_unit.proofs.Merged.{Each, merged, dependency_order, is_merged, units_of_merged, records_of_merged, files_of_merged, length-merged, each_of_merged, units_each, records_each, files_each, units_rise, records_rise, files_rise, merged_rises, flat_map-merged}
-use Rattle.ix_unit.proofs.Readers.{IsReader, done_is, step, number_reader, path_reader, any_text_reader, magic_reader, flag_reader, line_reader, name_reader}
+use Rattle.ix_unit.proofs.Readers.{number_reader, path_reader, any_text_reader, magic_reader, flag_reader, line_reader, name_reader}
 
 include_order : IsTotalOrder include_cmp
 include_order = then_total (on_total (λ (i : Include). i.from) nat_list_cmp_total) (then_total (on_total (λ (i : Include). i.line) nat_cmp_total) (on_total (λ (i : Include). i.to) nat_list_cmp_total))
@@ -152,7 +155,7 @@ dependency_reader = record { is_read = dependency_read; was_spelled = dependency
 
 dependencies_reader : (count : ℕ) → IsReader (dependencies_at count) (flat_map dependency_bytes) (IsItems IsValidDependency dependency_cmp count)
 unfolding dependencies_at
-dependencies_reader = items_reader dependency_at dependency_bytes IsValidDependency dependency_cmp dependency_reader dependency_order
+dependencies_reader = items_reader OutOfOrder dependency_at dependency_bytes IsValidDependency dependency_cmp dependency_reader dependency_order
 
 -- ---- includes
 
@@ -180,7 +183,7 @@ include_reader = record { is_read = include_read; was_spelled = include_was_spel
 
 includes_reader : (count : ℕ) → IsReader (includes_at count) (flat_map include_bytes) (IsItems IsValidInclude include_cmp count)
 unfolding includes_at
-includes_reader = items_reader include_at include_bytes IsValidInclude include_cmp include_reader include_order
+includes_reader = items_reader OutOfOrder include_at include_bytes IsValidInclude include_cmp include_reader include_order
 
 -- ---- all fields
 

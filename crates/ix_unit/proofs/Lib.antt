@@ -1,7 +1,5 @@
 pub mod Faults
 pub mod Grammar
-pub mod Items
-pub mod Loop
 pub mod Merged
 pub mod Readers
 pub mod Seal

@@ -1,6 +1,5 @@
--- A reader, and what it reads where it is spelled: the tools, and the readers of single fields.
-use Rattle.std.proofs.Common.{◌≡◌, ℕ, zero, suc, ◌^◌, ◌<◌, ◌≤◌, ◌==◌, Bool, true, false, cond, ◌&&◌, ◌||◌, nat_lt, nat_le, List, [], ◌∷◌, length, Option, Some, None, position, Result, Ok, Err, refl, ap, subst, arith}
-use Rattle.std.specs.Prelude.{is_none}
+-- What the single fields read where they are spelled.
+use Rattle.std.proofs.Common.{◌≡◌, ℕ, zero, suc, ◌^◌, ◌<◌, ◌≤◌, ◌==◌, Bool, true, false, ◌&&◌, nat_lt, nat_le, List, [], ◌∷◌, length, None, position, Ok, refl, subst, arith}
 use Rattle.std.specs.List.{list_all, position_or_len}
 use Rattle.std.proofs.lemmas.Bool.{and_parts, and_from, ltb-true, lt-ltb, le-ltb, leb-true, le-leb, eqb-true, eq-eqb}
 use Rattle.std.proofs.lemmas.Str.{utf8_valid_len-IsUtf8, IsUtf8-from_ascii}
@@ -8,105 +7,33 @@ use Rattle.std.proofs.lemmas.Str.Ascii.{IsAscii-from_all}
 use Rattle.std.proofs.lemmas.List.Elements.{All-from_recursion}
 use Rattle.std.specs.List.{AllByRecursion}
 use Rattle.ix_types.specs.Name.{IsFileName, is_lower_hex}
-use Rattle.ix_types.specs.Text.{IsText, IsTextOrEmpty, is_control, refusal, refusal_or_empty}
-use Rattle.ix_wire.specs.declared.fault.WireError.{WireError}
+use Rattle.ix_types.specs.Text.{IsText, IsTextOrEmpty, is_control}
+use Rattle.ix_wire.specs.Grammar.{tested_at}
 use Rattle.ix_wire.specs.Input.{Input, Passes}
-use Rattle.ix_wire.specs.Reading.{u32_at, text_at, is_text}
-use Rattle.ix_wire.specs.Spelling.{IsBytes, u32_bytes, text_bytes}
-use Rattle.ix_wire.proofs.Fields.{u32_where_spelled, text_where_spelled}
-use Rattle.ix_wire.proofs.Steps.{passes_bytes}
-use Rattle.ix_unit.specs.declared.fault.UnitError.{UnitError}
+use Rattle.ix_wire.specs.Spelling.{u32_bytes, text_bytes}
+use Rattle.ix_wire.proofs.Readers.{IsReader, IsReader-also, step, number_field_reader, text_field_reader, any_text_field_reader, tested_reader, either_true}
+use Rattle.ix_wire.proofs.Steps.{done_is}
 use Rattle.ix_unit.specs.declared.fault.UnitError.TheVariants.{BadMagic, BadField}
+use Rattle.ix_unit.specs.Fault.{unit_error}
 use Rattle.ix_unit.specs.Value.{IsLine}
 use Rattle.ix_unit.specs.Spelling.{flag_number, flag_bytes}
-use Rattle.ix_unit.specs.Reading.{Read, ◌>>=◌, of_field, number_at, path_at, any_text_at, tested_at, is_magic, magic_at, is_flag, flag_at, is_line, line_at, is_file_name, name_at}
-
--- what is spelled is read, and what was read was spelled there
-pub record IsReader {X : Type 0} (read : Input → Read X) (spelling : X → List ℕ) (IsValid : X → Type 0) : Type 0 where
-  pub is_read : (from to : Input) (x : X) → IsValid x → Passes from (spelling x) to → read from ≡ Ok (x, to)
-  pub was_spelled : (from to : Input) (x : X) → IsBytes from.rest → read from ≡ Ok (x, to) → IsValid x × Passes from (spelling x) to
-
--- the same values under another word
-pub IsReader-also : {X : Type 0} (read : Input → Read X) (spelling : X → List ℕ) (P Q : X → Type 0) → ((x : X) → P x → Q x) → ((x : X) → Q x → P x) → IsReader read spelling P → IsReader read spelling Q
-IsReader-also read spelling P Q there back r = record {
-  is_read = λ from to x q passes. r.is_read from to x (back x q) passes;
-  was_spelled = λ from to x bytes e. let h = r.was_spelled from to x bytes e in (there x h.0, h.1);
-}
-
--- ---- steps that did not fail
-
-abbrev pub done : {A : Type 0} → A × Input → Read A
-done x = Ok x
-
-pub done_is : {A : Type 0} (x y : A × Input) → done x ≡ done y → x ≡ y
-done_is x y e = cc
-
-pub bind_ok : {A B : Type 0} (r : Read A) (f : A × Input → Read B) (y : B × Input) → (r >>= f) ≡ Ok y → (x : A × Input) × (r ≡ Ok x) × (f x ≡ Ok y)
-bind_ok (Ok x) f y e = (x, refl, e)
-bind_ok (Err d) f y e = absurd cc
-
-pub test_ok : {A : Type 0} (b : Bool) (d : UnitError) (x : Read A) (y : A × Input) → cond b x (Err d) ≡ Ok y → (b ≡ true) × (x ≡ Ok y)
-test_ok true d x y e = (refl, e)
-test_ok false d x y e = absurd cc
-
--- what a step read, and that the next ones did not fail
-pub record IsStep {X Y : Type 0} (spelling : X → List ℕ) (IsValid : X → Type 0) (next : X × Input → Read Y) (from : Input) (y : Y × Input) (x : X × Input) : Type 0 where
-  pub valid : IsValid x.0
-  pub passes : Passes from (spelling x.0) x.1
-  pub bytes : IsBytes x.1.rest
-  pub goes_on : next x ≡ Ok y
-
-pub step : {X Y : Type 0} (read : Input → Read X) (spelling : X → List ℕ) (IsValid : X → Type 0) → IsReader read spelling IsValid → (next : X × Input → Read Y) (from : Input) (y : Y × Input) → IsBytes from.rest
-    → (read from >>= next) ≡ Ok y → (x : X × Input) × IsStep spelling IsValid next from y x
-step read spelling IsValid reader next from y bytes e =
-    let b = bind_ok (read from) next y e in
-    let h = reader.was_spelled from b.0.1 b.0.0 bytes b.1 in
-    (b.0, record { valid = h.0; passes = h.1; bytes = passes_bytes from b.0.1 (spelling b.0.0) bytes h.1; goes_on = b.2 })
+use Rattle.ix_unit.specs.Reading.{number_at, path_at, any_text_at, is_magic, magic_at, is_flag, flag_at, is_line, line_at, is_file_name, name_at}
 
 -- ---- plain fields
 
-of_field_ok : {A : Type 0} (r : Result (A × Input) WireError) (y : A × Input) → of_field r ≡ Ok y → r ≡ Ok y
-of_field_ok (Ok x) y e = ap (λ z. Ok z) (done_is x y e)
-of_field_ok (Err d) y e = absurd cc
-
 pub number_reader : IsReader number_at u32_bytes (λ n. n < 2 ^ 32)
 unfolding number_at
-number_reader = record {
-  is_read = λ from to n lt passes. rw (u32_where_spelled.is_read from to n lt passes) refl;
-  was_spelled = λ from to n bytes e. u32_where_spelled.was_spelled from to n bytes (of_field_ok (u32_at from) (n, to) e);
-}
-
-none_from_test : {A : Type 0} (o : Option A) → is_none o ≡ true → o ≡ None
-none_from_test None e = refl
-none_from_test (Some x) e = absurd cc
-
-test_from_none : {A : Type 0} (o : Option A) → o ≡ None → is_none o ≡ true
-test_from_none o e = rw e refl
+number_reader = number_field_reader unit_error
 
 pub path_reader : IsReader path_at text_bytes IsText
-unfolding path_at is_text
-path_reader = record {
-  is_read = λ from to t valid passes. rw (text_where_spelled.is_read false from to t (test_from_none (refusal t) valid) passes) refl;
-  was_spelled = λ from to t bytes e. let h = text_where_spelled.was_spelled false from to t bytes (of_field_ok (text_at false from) (t, to) e) in (none_from_test (refusal t) h.0, h.1);
-}
+unfolding path_at
+path_reader = text_field_reader unit_error
 
 pub any_text_reader : IsReader any_text_at text_bytes IsTextOrEmpty
-unfolding any_text_at is_text
-any_text_reader = record {
-  is_read = λ from to t valid passes. rw (text_where_spelled.is_read true from to t (test_from_none (refusal_or_empty t) valid) passes) refl;
-  was_spelled = λ from to t bytes e. let h = text_where_spelled.was_spelled true from to t bytes (of_field_ok (text_at true from) (t, to) e) in (none_from_test (refusal_or_empty t) h.0, h.1);
-}
+unfolding any_text_at
+any_text_reader = any_text_field_reader unit_error
 
 -- ---- fields that pass a test
-
-tested_reader : {A : Type 0} (read : Input → Read A) (spelling : A → List ℕ) (P : A → Type 0) (fault : ℕ → UnitError) (passes : A → Bool) → IsReader read spelling P → IsReader (tested_at read fault passes) spelling (λ x. P x × (passes x ≡ true))
-tested_reader {A} read spelling P fault passes reader = record {
-  is_read = λ from to x valid there. rw (reader.is_read from to x valid.0 there, valid.1) refl;
-  was_spelled = λ from to x bytes e.
-      let s = step read spelling P reader (λ y. cond (passes y.0) (Ok y) (Err (fault from.at))) from (x, to) bytes e in
-      let t = test_ok (passes s.0.0) (fault from.at) (Ok s.0) (x, to) s.1.goes_on in
-      subst (λ (y : A × Input). (P y.0 × (passes y.0 ≡ true)) × Passes from (spelling y.0) y.1) (done_is s.0 (x, to) t.1) ((s.1.valid, t.0), s.1.passes);
-}
 
 abbrev IsNumber : ℕ → Type 0
 IsNumber n = n < 2 ^ 32
@@ -169,10 +96,6 @@ false_from_not false refuted = refl
 
 pub test_from_no_name : (name : List ℕ) → (IsFileName name → ⊥) → is_file_name name ≡ false
 test_from_no_name name refuted = false_from_not (is_file_name name) (λ e. refuted (name_from_test name e))
-
-either_true : {P : Type 0} (a b : Bool) → (a || b) ≡ true → (a ≡ true → P) → (b ≡ true → P) → P
-either_true true b e p q = p refl
-either_true false b e p q = q e
 
 pub hex_is_small : (c : ℕ) → is_lower_hex c ≡ true → (48 ≤ c) × (c < 127)
 hex_is_small c e =

@@ -1,8 +1,7 @@
 -- The order of dependencies and includes.
-use Rattle.std.specs.Prelude.{◌-◌, List, length, slice_get, Bool, true, Option, Some, None}
 use Rattle.std.specs.declared.cmp.Ordering.{Ordering}
 use Rattle.std.specs.declared.cmp.Ordering.TheVariants.{Less, Greater}
-use Rattle.std.specs.Ordering.{nat_cmp, bool_cmp, on, then_cmp, is_lt}
+use Rattle.std.specs.Ordering.{nat_cmp, bool_cmp, on, then_cmp}
 use Rattle.ix_types.specs.Row.{text_cmp}
 use Rattle.ix_unit.specs.declared.dependency.Dependency.{Dependency}
 use Rattle.ix_unit.specs.declared.dependency.Dependency.TheVariants.{Unit, Record, File}
@@ -33,12 +32,3 @@ dependency_cmp (File a) (File b) = file_dep_cmp a b
 -- by the including file, the line and the included file
 abbrev pub include_cmp : Include → Include → Ordering
 include_cmp = then_cmp (on (λ i. i.from) text_cmp) (then_cmp (on (λ i. i.line) nat_cmp) (on (λ i. i.to) text_cmp))
-
--- the last of a list
-abbrev pub last_of : {X : Type 0} → List X → Option X
-last_of xs = slice_get xs (length xs - 1)
-
--- whether the next is greater than the last, if there is one
-abbrev pub may_follow : {X : Type 0} → (X → X → Ordering) → Option X → X → Bool
-may_follow cmp None next = true
-may_follow cmp (Some last) next = is_lt (cmp last next)

@@ -1,13 +1,13 @@
 -- Reading a unit field by field, up to the first fault.
-use Rattle.std.specs.Prelude.{ℕ, zero, suc, ◌+◌, ◌-◌, ◌==◌, ◌&&◌, nat_lt, nat_le, nat_eq, if◌then◌else◌, List, [], ◌∷◌, length, take, drop, Bool, true, false, Option, Some, None, Result, Ok, Err}
-use Rattle.std.specs.declared.cmp.Ordering.{Ordering}
+use Rattle.std.specs.Prelude.{ℕ, ◌+◌, ◌-◌, ◌==◌, ◌&&◌, nat_lt, nat_le, nat_eq, if◌then◌else◌, List, length, take, drop, Bool, Option, Some, None, Ok, Err}
 use Rattle.std.specs.Cmp.Lexicographic.{pointwise}
 use Rattle.std.specs.List.{list_all}
 use Rattle.sha2.specs.Sha256.{sha256}
 use Rattle.ix_types.specs.Name.{is_lower_hex}
-use Rattle.ix_wire.specs.declared.fault.WireError.{WireError}
+use Rattle.ix_wire.specs.Grammar.{number_field, text_field, any_text_field, tested_at, items_at}
 use Rattle.ix_wire.specs.Input.{Input}
-use Rattle.ix_wire.specs.Reading.{u32_at, text_at}
+use Rattle.ix_wire.specs.Read.{◌>>=◌}
+use Rattle.ix_wire.specs.Read as wire
 use Rattle.ix_unit.specs.declared.dependency.Dependency.{Dependency}
 use Rattle.ix_unit.specs.declared.dependency.Dependency.TheVariants.{Unit, Record, File}
 use Rattle.ix_unit.specs.declared.fault.UnitError.{UnitError}
@@ -18,32 +18,22 @@ use Rattle.ix_unit.specs.declared.value.Include.{Include}
 use Rattle.ix_unit.specs.declared.value.UnitValue.{UnitValue}
 use Rattle.ix_unit.specs.Fault.{unit_error}
 use Rattle.ix_unit.specs.Kinds.{kinds_of}
-use Rattle.ix_unit.specs.Order.{dependency_cmp, include_cmp, may_follow}
+use Rattle.ix_unit.specs.Order.{dependency_cmp, include_cmp}
 
 -- a value and what is left, or the first fault
 abbrev pub Read : Type 0 → Type 0
-Read A = Result (A × Input) UnitError
-
-infixl 10 ◌>>=◌
-abbrev pub ◌>>=◌ : {A B : Type 0} → Read A → (A × Input → Read B) → Read B
-(Ok x) >>= f = f x
-(Err e) >>= f = Err e
-
--- a field's fault is the unit's
-abbrev pub of_field : {A : Type 0} → Result (A × Input) WireError → Read A
-of_field (Ok x) = Ok x
-of_field (Err e) = Err (unit_error e)
+Read = wire.Read UnitError
 
 unfoldable pub number_at : Input → Read ℕ
-number_at from = of_field (u32_at from)
+number_at = number_field unit_error
 
 -- a text of at least one byte
 unfoldable pub path_at : Input → Read (List ℕ)
-path_at from = of_field (text_at false from)
+path_at = text_field unit_error
 
 -- a text that may be empty
 unfoldable pub any_text_at : Input → Read (List ℕ)
-any_text_at from = of_field (text_at true from)
+any_text_at = any_text_field unit_error
 
 -- ---- fields that not everything may be
 
@@ -61,12 +51,6 @@ is_line n = nat_lt 0 n
 unfoldable pub is_file_name : List ℕ → Bool
 is_file_name name = nat_lt 0 (length name) && (nat_le (length name) 64 && list_all is_lower_hex name)
 
--- a field that passes the test, or a fault at its place
-abbrev pub tested_at : {A : Type 0} → (Input → Read A) → (ℕ → UnitError) → (A → Bool) → Input → Read A
-tested_at read fault passes from = do
-  x ← read from
-  if passes x.0 then Ok x else Err (fault from.at)
-
 unfoldable pub magic_at : Input → Read ℕ
 magic_at = tested_at number_at (λ _. BadMagic) is_magic
 
@@ -78,16 +62,6 @@ line_at = tested_at number_at BadField is_line
 
 unfoldable pub name_at : Input → Read (List ℕ)
 name_at = tested_at path_at BadField is_file_name
-
--- ---- lists
-
--- So many items, each greater than the one before it. Where one isn't, it is read whole before it is refused.
-unfoldable pub items_at : {X : Type 0} → (Input → Read X) → (X → X → Ordering) → ℕ → Option X → Input → Read (List X)
-items_at read cmp zero before from = Ok ([], from)
-items_at read cmp (suc n) before from = do
-  first ← read from
-  if may_follow cmp before first.0 then (items_at read cmp n (Some first.0) first.1 >>= λ others. Ok (first.0 ∷ others.0, others.1))
-      else Err (OutOfOrder from.at)
 
 -- ---- dependencies and includes
 
@@ -116,7 +90,7 @@ unfoldable pub dependency_at : Input → Read Dependency
 dependency_at from = number_at from >>= λ kind. dependency_of from.at kind.0 kind.1
 
 unfoldable pub dependencies_at : ℕ → Input → Read (List Dependency)
-dependencies_at count = items_at dependency_at dependency_cmp count None
+dependencies_at count = items_at OutOfOrder dependency_at dependency_cmp count None
 
 unfoldable pub include_at : Input → Read Include
 include_at start = do
@@ -126,7 +100,7 @@ include_at start = do
   Ok (record { from = from.0; line = line.0; to = to.0 }, to.1)
 
 unfoldable pub includes_at : ℕ → Input → Read (List Include)
-includes_at count = items_at include_at include_cmp count None
+includes_at count = items_at OutOfOrder include_at include_cmp count None
 
 -- ---- a unit
 

@@ -1,6 +1,7 @@
 //! The order of dependencies and includes.
 ghost use Rattle.std.specs.Prelude.{◌≡◌};
-ghost use Rattle.ix_unit.specs.Order.{dependency_cmp, include_cmp, last_of, may_follow};
+ghost use Rattle.ix_unit.specs.Order.{dependency_cmp, include_cmp};
+ghost use Rattle.ix_wire.specs.Grammar.{last_of, may_follow};
 
 use crate::dependency::Dependency;
 use crate::value::Include;

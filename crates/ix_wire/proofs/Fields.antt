@@ -7,12 +7,14 @@ use Rattle.std.proofs.lemmas.List.{take_at, drop_at, take-append-drop, length-ap
 use Rattle.std.proofs.lemmas.Nat.{be_bytes_4, be_bytes_8, from_be_bytes-to_be_bytes_4, from_be_bytes-to_be_bytes_8}
 use Rattle.ix_types.specs.declared.text.TextError.TheVariants as text_errors
 use Rattle.ix_types.specs.Text.{max_text_len, refusal_or_empty}
+use Rattle.ix_wire.specs.declared.fault.WireError.{WireError}
 use Rattle.ix_wire.specs.declared.fault.WireError.TheVariants.{Short, BadText, TooLong}
 use Rattle.ix_wire.specs.Input.{Input, Passes, skip}
 use Rattle.ix_wire.specs.Laws.{IsReadWhereSpelled, TextIsReadWhereSpelled, BeginsNoOther, TextBeginsNoOther}
-use Rattle.ix_wire.specs.Reading.{Read, u32_at, u64_at, is_text, text_of, text_at}
+use Rattle.ix_wire.specs.Read.{Read}
+use Rattle.ix_wire.specs.Reading.{u32_at, u64_at, is_text, text_of, text_at}
 use Rattle.ix_wire.specs.Spelling.{IsBytes, u32_bytes, u64_bytes, text_bytes}
-use Rattle.ix_wire.proofs.Steps.{IsBytes-take, bind_ok, guard_ok, guard_true, read_is, passes_join, passes_split}
+use Rattle.ix_wire.proofs.Steps.{IsBytes-take, bind_ok, guard_ok, test_ok, read_is, passes_join, passes_split}
 
 -- ---- numbers of any width
 
@@ -38,10 +40,10 @@ wide64 = record {
   below = λ bytes fits. omega (arith, fits 0, fits 1, fits 2, fits 3, fits 4, fits 5, fits 6, fits 7);
 }
 
-abbrev number_at : Width → Input → Read ℕ
+abbrev number_at : Width → Input → Read WireError ℕ
 number_at w from = cond (ltb (length from.rest) (byte_len w)) (Err (Short from.at)) (Ok (from_be_bytes w (take (byte_len w) from.rest), skip (byte_len w) from))
 
-abbrev done : ℕ → Input → Read ℕ
+abbrev done : ℕ → Input → Read WireError ℕ
 done n to = Ok (n, to)
 
 done_is : (m n : ℕ) (a b : Input) → done m a ≡ done n b → (m ≡ n) × (a ≡ b)
@@ -111,7 +113,7 @@ text_of_takes may_be_empty start len from to text e =
     let bytes = take len from.rest in
     let g1 = guard_ok (ltb max_text_len len) (TooLong start) (cond (ltb (length from.rest) len) (Err (Short start)) (cond (is_text may_be_empty bytes) (Ok (bytes, skip len from)) (Err (BadText start)))) (text, to) e in
     let g2 = guard_ok (ltb (length from.rest) len) (Short start) (cond (is_text may_be_empty bytes) (Ok (bytes, skip len from)) (Err (BadText start))) (text, to) g1.1 in
-    let g3 = guard_true (is_text may_be_empty bytes) (BadText start) (Ok (bytes, skip len from)) (text, to) g2.1 in
+    let g3 = test_ok (is_text may_be_empty bytes) (BadText start) (Ok (bytes, skip len from)) (text, to) g2.1 in
     let is = read_is g3.1 in
     let long : len ≤ length from.rest = ltb-false _ _ g2.0 in
     let length_is : length bytes ≡ len = omega (arith, length-take len from.rest) in

@@ -1,2 +1,5 @@
 pub mod Fields
+pub mod Items
+pub mod Loop
+pub mod Readers
 pub mod Steps

@@ -6,6 +6,10 @@ pub record Input : Type 0 where
   pub at : ℕ
   pub rest : List ℕ
 
+-- before the first byte
+abbrev pub start : List ℕ → Input
+start bytes = record { at = 0; rest = bytes }
+
 -- the place n bytes on
 abbrev pub skip : ℕ → Input → Input
 skip n from = record { at = from.at + n; rest = drop n from.rest }

@@ -1,12 +1,14 @@
 -- What holds of the spellings and of reading them.
 use Rattle.std.specs.Prelude.{◌≡◌, ℕ, ◌<◌, List, ◌++◌, Bool, IsTrue, Ok}
+use Rattle.ix_wire.specs.declared.fault.WireError.{WireError}
 use Rattle.ix_wire.specs.Input.{Input, Passes}
+use Rattle.ix_wire.specs.Read.{Read}
 use Rattle.ix_wire.specs.Spelling.{IsBytes, text_bytes}
-use Rattle.ix_wire.specs.Reading.{Read, is_text, text_at}
+use Rattle.ix_wire.specs.Reading.{is_text, text_at}
 
 -- A number below the limit is read where its spelling stands, whatever follows. Of bytes, what is read was
 -- spelled there.
-pub record IsReadWhereSpelled (read : Input → Read ℕ) (spelling : ℕ → List ℕ) (limit : ℕ) : Type 0 where
+pub record IsReadWhereSpelled (read : Input → Read WireError ℕ) (spelling : ℕ → List ℕ) (limit : ℕ) : Type 0 where
   pub is_read : (from to : Input) (n : ℕ) → n < limit → Passes from (spelling n) to → read from ≡ Ok (n, to)
   pub was_spelled : (from to : Input) (n : ℕ) → IsBytes from.rest → read from ≡ Ok (n, to) → (n < limit) × Passes from (spelling n) to
 

@@ -1,4 +1,6 @@
+pub mod Grammar
 pub mod Input
 pub mod Laws
+pub mod Read
 pub mod Reading
 pub mod Spelling

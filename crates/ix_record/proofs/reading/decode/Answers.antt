@@ -1,8 +1,8 @@
 use Rattle.std.proofs.Common.{arith}
+use Rattle.ix_wire.specs.Input.{start}
 use Rattle.ix_record.specs.Gives.{Gives}
 use Rattle.ix_record.specs.Reading.{record_at}
 use Rattle.ix_record.proofs.Faults.{decoded_is_spelled, spelled_is_decoded, fault_is_answered}
-use Rattle.ix_record.proofs.Grammar.{start}
 use Rattle.ix_record.proofs.reading.decode.Goals as goal
 
 pub returns-clause-found : goal.returns-clause-found

@@ -1,11 +1,12 @@
 use Rattle.std.proofs.Common.{◌≡◌, Some, None, Ok, Err, inl, inr, ap, ◌∙◌, arith}
 use Rattle.std.proofs.lemmas.Result.{err_from_is_err_and}
+use Rattle.ix_wire.specs.Input.{start}
 use Rattle.ix_wire.specs.Spelling.{IsBytes}
 use Rattle.ix_unit.specs.declared.fault.UnitError.{UnitError}
 use Rattle.ix_unit.specs.declared.value.UnitValue.{UnitValue}
 use Rattle.ix_unit.specs.Gives.{Fails}
 use Rattle.ix_unit.specs.Reading.{unit_fields_at, seal_fault}
-use Rattle.ix_unit.proofs.Faults.{start, read_was_spelled, place_is_inside, fields_failed, seal_failed, spelled_is_decoded, only_memory}
+use Rattle.ix_unit.proofs.Faults.{read_was_spelled, place_is_inside, fields_failed, seal_failed, spelled_is_decoded, only_memory}
 use Rattle.ix_unit.proofs.reading.decode.Goals as goal
 
 pub returns-in_err-unit-clause-only : goal.returns-in_err-unit-clause-only

@@ -7,13 +7,12 @@ use Rattle.std.specs.List.{AllByRecursion, flat_map}
 use Rattle.std.specs.List.Sorted.{IsStrictlySortedBy}
 use Rattle.std.specs.Ordering.{is_lt}
 use Rattle.std.proofs.lemmas.List.Concat.{flat_map-cons}
+use Rattle.ix_wire.specs.Grammar.{may_follow, items_at}
 use Rattle.ix_wire.specs.Input.{Input, Passes}
+use Rattle.ix_wire.specs.Read.{Read, ◌>>=◌}
 use Rattle.ix_wire.specs.Spelling.{IsBytes}
-use Rattle.ix_wire.proofs.Steps.{passes_join, passes_split}
-use Rattle.ix_record.specs.declared.fault.RecordError.TheVariants.{OutOfOrder}
-use Rattle.ix_record.specs.Order.{may_follow}
-use Rattle.ix_record.specs.Reading.{Read, ◌>>=◌, items_at}
-use Rattle.ix_record.proofs.Readers.{IsReader, done, done_is, test_ok, bind_ok, step}
+use Rattle.ix_wire.proofs.Readers.{IsReader, step}
+use Rattle.ix_wire.proofs.Steps.{bind_ok, test_ok, done, done_is, passes_join, passes_split}
 
 -- so many valid items, strictly rising
 pub record IsItems {X : Type 0} (IsValid : X → Type 0) (cmp : X → X → Ordering) (count : ℕ) (xs : List X) : Type 0 where
@@ -55,38 +54,38 @@ passes_nothing from to passes =
     let same_at : from.at ≡ to.at = omega (arith, passes.moved) in
     ap (λ (at : ℕ). record { at = at; rest = from.rest }) same_at ∙ ap (λ (rest : List ℕ). record { at = to.at; rest = rest }) passes.parts
 
-items_read : {X : Type 0} (read : Input → Read X) (spelling : X → List ℕ) (IsValid : X → Type 0) (cmp : X → X → Ordering) → IsReader read spelling IsValid
-    → (xs : List X) (before : Option X) (from to : Input) → AllByRecursion IsValid xs → IsStrictlySortedBy cmp xs → AreAbove cmp before xs → Passes from (flat_map spelling xs) to → items_at read cmp (length xs) before from ≡ Ok (xs, to)
+items_read : {E X : Type 0} (out_of_order : ℕ → E) (read : Input → Read E X) (spelling : X → List ℕ) (IsValid : X → Type 0) (cmp : X → X → Ordering) → IsReader read spelling IsValid
+    → (xs : List X) (before : Option X) (from to : Input) → AllByRecursion IsValid xs → IsStrictlySortedBy cmp xs → AreAbove cmp before xs → Passes from (flat_map spelling xs) to → items_at out_of_order read cmp (length xs) before from ≡ Ok (xs, to)
 unfolding items_at IsStrictlySortedBy
-items_read {X} read spelling IsValid cmp reader [] before from to valid rising above passes =
+items_read {E} {X} out_of_order read spelling IsValid cmp reader [] before from to valid rising above passes =
     let empty : List X = [] in
-    ap (λ (i : Input). done (empty, i)) (passes_nothing from to passes)
-items_read read spelling IsValid cmp reader (x ∷ xs) before from to valid rising above passes =
+    ap (λ (i : Input). done E (empty, i)) (passes_nothing from to passes)
+items_read out_of_order read spelling IsValid cmp reader (x ∷ xs) before from to valid rising above passes =
     let both : Passes from (spelling x ++ flat_map spelling xs) to = rw (← flat_map-cons spelling x xs) passes in
     let parts = passes_split from to (spelling x) (flat_map spelling xs) both in
-    rw (reader.is_read from parts.0 x valid.0 parts.1, follows_from_above cmp before x xs above, items_read read spelling IsValid cmp reader xs (Some x) parts.0 to valid.1 rising.1 rising.0 parts.2) refl
+    rw (reader.is_read from parts.0 x valid.0 parts.1, follows_from_above cmp before x xs above, items_read out_of_order read spelling IsValid cmp reader xs (Some x) parts.0 to valid.1 rising.1 rising.0 parts.2) refl
 
-items_were_spelled : {X : Type 0} (read : Input → Read X) (spelling : X → List ℕ) (IsValid : X → Type 0) (cmp : X → X → Ordering) → IsReader read spelling IsValid → IsTotalOrder cmp
-    → (count : ℕ) (before : Option X) (from : Input) (y : List X × Input) → IsBytes from.rest → items_at read cmp count before from ≡ Ok y → IsItems IsValid cmp count y.0 × AreAbove cmp before y.0 × Passes from (flat_map spelling y.0) y.1
+items_were_spelled : {E X : Type 0} (out_of_order : ℕ → E) (read : Input → Read E X) (spelling : X → List ℕ) (IsValid : X → Type 0) (cmp : X → X → Ordering) → IsReader read spelling IsValid → IsTotalOrder cmp
+    → (count : ℕ) (before : Option X) (from : Input) (y : List X × Input) → IsBytes from.rest → items_at out_of_order read cmp count before from ≡ Ok y → IsItems IsValid cmp count y.0 × AreAbove cmp before y.0 × Passes from (flat_map spelling y.0) y.1
 unfolding items_at IsStrictlySortedBy
-items_were_spelled {X} read spelling IsValid cmp reader order zero before from y bytes e =
+items_were_spelled {E} {X} out_of_order read spelling IsValid cmp reader order zero before from y bytes e =
     let nothing : Passes from (flat_map spelling []) from = record { parts = refl; moved = omega arith } in
     subst (λ (z : List X × Input). IsItems IsValid cmp 0 z.0 × AreAbove cmp before z.0 × Passes from (flat_map spelling z.0) z.1) (done_is ([], from) y e) (record { counted = refl; valid = tt; rising = tt }, above_none cmp before, nothing)
-items_were_spelled {X} read spelling IsValid cmp reader order (suc n) before from y bytes e =
-    let s = step read spelling IsValid reader (λ x. cond (may_follow cmp before x.0) (items_at read cmp n (Some x.0) x.1 >>= λ xs. Ok (x.0 ∷ xs.0, xs.1)) (Err (OutOfOrder from.at))) from y bytes e in
+items_were_spelled {E} {X} out_of_order read spelling IsValid cmp reader order (suc n) before from y bytes e =
+    let s = step read spelling IsValid reader (λ x. cond (may_follow cmp before x.0) (items_at out_of_order read cmp n (Some x.0) x.1 >>= λ xs. Ok (x.0 ∷ xs.0, xs.1)) (Err (out_of_order from.at))) from y bytes e in
     let x = s.0 in
-    let t = test_ok (may_follow cmp before x.0) (OutOfOrder from.at) (items_at read cmp n (Some x.0) x.1 >>= λ xs. Ok (x.0 ∷ xs.0, xs.1)) y s.1.goes_on in
-    let b = bind_ok (items_at read cmp n (Some x.0) x.1) (λ xs. Ok (x.0 ∷ xs.0, xs.1)) y t.1 in
-    let rest = items_were_spelled read spelling IsValid cmp reader order n (Some x.0) x.1 b.0 s.1.bytes b.1 in
+    let t = test_ok (may_follow cmp before x.0) (out_of_order from.at) (items_at out_of_order read cmp n (Some x.0) x.1 >>= λ xs. Ok (x.0 ∷ xs.0, xs.1)) y s.1.goes_on in
+    let b = bind_ok (items_at out_of_order read cmp n (Some x.0) x.1) (λ xs. Ok (x.0 ∷ xs.0, xs.1)) y t.1 in
+    let rest = items_were_spelled out_of_order read spelling IsValid cmp reader order n (Some x.0) x.1 b.0 s.1.bytes b.1 in
     let made : List X × Input = (x.0 ∷ b.0.0, b.0.1) in
     let joined = passes_join from x.1 b.0.1 (spelling x.0) (flat_map spelling b.0.0) s.1.passes rest.2 in
     let whole : Passes from (flat_map spelling (x.0 ∷ b.0.0)) b.0.1 = rw (flat_map-cons spelling x.0 b.0.0) joined in
     let items : IsItems IsValid cmp (suc n) (x.0 ∷ b.0.0) = record { counted = ap suc rest.0.counted; valid = (s.1.valid, rest.0.valid); rising = (rest.1, rest.0.rising) } in
     subst (λ (z : List X × Input). IsItems IsValid cmp (suc n) z.0 × AreAbove cmp before z.0 × Passes from (flat_map spelling z.0) z.1) (done_is made y b.2) (items, above_first cmp order before x.0 b.0.0 t.0 rest.1, whole)
 
-pub items_reader : {X : Type 0} (read : Input → Read X) (spelling : X → List ℕ) (IsValid : X → Type 0) (cmp : X → X → Ordering) → IsReader read spelling IsValid → IsTotalOrder cmp → (count : ℕ)
-    → IsReader (items_at read cmp count None) (flat_map spelling) (IsItems IsValid cmp count)
-items_reader read spelling IsValid cmp reader order count = record {
-  is_read = λ from to xs items passes. rw (← items.counted) (items_read read spelling IsValid cmp reader xs None from to items.valid items.rising tt passes);
-  was_spelled = λ from to xs bytes e. let h = items_were_spelled read spelling IsValid cmp reader order count None from (xs, to) bytes e in (h.0, h.2);
+pub items_reader : {E X : Type 0} (out_of_order : ℕ → E) (read : Input → Read E X) (spelling : X → List ℕ) (IsValid : X → Type 0) (cmp : X → X → Ordering) → IsReader read spelling IsValid → IsTotalOrder cmp → (count : ℕ)
+    → IsReader (items_at out_of_order read cmp count None) (flat_map spelling) (IsItems IsValid cmp count)
+items_reader out_of_order read spelling IsValid cmp reader order count = record {
+  is_read = λ from to xs items passes. rw (← items.counted) (items_read out_of_order read spelling IsValid cmp reader xs None from to items.valid items.rising tt passes);
+  was_spelled = λ from to xs bytes e. let h = items_were_spelled out_of_order read spelling IsValid cmp reader order count None from (xs, to) bytes e in (h.0, h.2);
 }
