@@ -24,7 +24,7 @@ pub same_area_itself : (a : Area) → same_area a a ≡ true
 same_area_itself Units = refl
 same_area_itself Records = refl
 
-same_name_itself : (name : List ℕ) → same_name name name ≡ true
+pub same_name_itself : (name : List ℕ) → same_name name name ≡ true
 same_name_itself name = (bytes_decides name name).1 refl
 
 apart : (name q : List ℕ) → name ≢ q → same_name name q ≡ false

@@ -1,10 +1,16 @@
 pub mod Fresh
 pub mod KeptLemmas
+pub mod Leaves
 pub mod Left
 pub mod Listing
+pub mod Noting
 pub mod Possible
 pub mod Rows
 pub mod Since
 pub mod Sorted
+pub mod StampsApart
+pub mod StampsGiven
 pub mod Steps
 pub mod Values
+pub mod ValuesAfter
+pub mod ValuesKept

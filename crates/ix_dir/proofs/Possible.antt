@@ -94,7 +94,7 @@ module _ (area : Area) (q : List ℕ) where
   covers_all values so_far [] covers = covers
   covers_all values so_far (m ∷ moves) covers = covers_all (values_step area q values m) (puts_step area so_far m) moves (covers_step values so_far m covers)
 
-  been_put : (moves : List Move) → was_there moves area q ≡ true → is_some (get (puts moves area) q) ≡ true
+  pub been_put : (moves : List Move) → was_there moves area q ≡ true → is_some (get (puts moves area) q) ≡ true
   been_put moves h = covers_all (None ∷ []) empty moves (λ e. cc) h
 
 -- where an entry that is found stands

@@ -90,7 +90,7 @@ distinct_keys (e ∷ es) s x (suc j) zero a b =
     absurd (not_below e.0 es j (and_parts (below_all name_cmp e.0 es) (is_sorted name_cmp es) s).0 (a ∙ ap Some (sym same)))
 distinct_keys (e ∷ es) s x (suc j) (suc k) a b = ap suc (distinct_keys es (and_parts (below_all name_cmp e.0 es) (is_sorted name_cmp es) s).1 x j k a b)
 
-filter_keys : {X : Type 0} (p : List ℕ → Bool) (es : List (List ℕ × X)) → keys_of (where_key name_cmp p es) ≡ filter p (keys_of es)
+pub filter_keys : {X : Type 0} (p : List ℕ → Bool) (es : List (List ℕ × X)) → keys_of (where_key name_cmp p es) ≡ filter p (keys_of es)
 filter_keys p [] = refl
 filter_keys p (e ∷ es) =
     elim (p e.0) as (λ b. keys_of (cond b (e ∷ where_key name_cmp p es) (where_key name_cmp p es)) ≡ cond b (e.0 ∷ filter p (keys_of es)) (filter p (keys_of es))) [

@@ -71,7 +71,7 @@ synced_stands moves area name =
     ∙ ap (λ b. cond b (last_alone (values_of moves area name)) (values_of moves area name)) (same_area_itself area)
     ∙ last_stands moves area name
 
-at_drop : (values : List Value) (k : ℕ) (v : Value) → drop k values ≡ v ∷ [] → (k < length values) × (get_or values k v ≡ v)
+pub at_drop : (values : List Value) (k : ℕ) (v : Value) → drop k values ≡ v ∷ [] → (k < length values) × (get_or values k v ≡ v)
 at_drop [] zero v h = cc
 at_drop [] (suc k) v h = cc
 at_drop (x ∷ values) zero v h = let same : x ≡ v = cc in (omega arith, same)

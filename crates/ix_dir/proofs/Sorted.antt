@@ -71,7 +71,7 @@ rows_listed : (es : List (List ℕ × ℕ)) → map (λ l. (l.name, l.stamp)) (m
 rows_listed [] = refl
 rows_listed (e ∷ es) = ap (λ rest. e ∷ rest) (rows_listed es)
 
-find_lookup : (q : List ℕ) (es : List (List ℕ × ℕ)) → find name_cmp q es ≡ lookup (same_name q) es
+pub find_lookup : {X : Type 0} (q : List ℕ) (es : List (List ℕ × X)) → find name_cmp q es ≡ lookup (same_name q) es
 find_lookup q [] = refl
 find_lookup q (e ∷ es) = rw (← texts_ties q e.0) (ap (cond (same_name q e.0) (Some e.1)) (find_lookup q es))
 

@@ -1,24 +1,18 @@
--- The walk over the moves for the values of a name, and for all names.
-use Rattle.std.proofs.Common.{◌≡◌, ℕ, zero, suc, ◌+◌, ◌-◌, ◌<◌, ◌≤◌, Bool, true, false, cond, ◌&&◌, ◌||◌, List, [], ◌∷◌, ◌++◌, length, map, take, drop, get_or, refl, sym, ap, ◌∙◌, Option, Some, None, is_some, arith, Result, Ok, Err, IfOk, Vec}
-use Rattle.std.specs.declared.alloc.Global.{Global}
+-- The values of a name, and the names that were put, after one move more.
+use Rattle.std.proofs.Common.{◌≡◌, ℕ, zero, suc, ◌+◌, ◌-◌, ◌<◌, ◌≤◌, Bool, true, false, cond, ◌&&◌, ◌||◌, List, [], ◌∷◌, ◌++◌, length, map, take, drop, get_or, refl, sym, ap, ◌∙◌, Option, Some, None, is_some, arith}
 use Rattle.std.specs.List.{slice_get, list_any}
-use Rattle.std.specs.Map.{keys_of}
 use Rattle.std.specs.Ordering.{eq_by_cmp}
 use Rattle.std.specs.Cmp.Lexicographic.{nat_list_cmp_total, nat_list_eq_equiv, texts_ties}
-use Rattle.std.specs.FinMap.{get, insert, empty, keys, entries, get-entries, get-insert, entries_sorted}
+use Rattle.std.specs.FinMap.{get, insert, get-insert}
 use Rattle.std.proofs.lemmas.List.{take_more, map-append}
 use Rattle.std.proofs.lemmas.List.Sums.{fold-append}
 use Rattle.std.proofs.lemmas.Option.{slice_get-get_or}
 use Rattle.ix_dir.specs.declared.area.Area.{Area}
-use Rattle.ix_dir.specs.declared.dir.Listed.{Listed}
-use Rattle.ix_dir.specs.declared.places.Places.{Places}
-use Rattle.ix_dir.specs.Crash.{puts, puts_step}
+use Rattle.ix_dir.specs.Crash.{puts_step}
 use Rattle.ix_dir.specs.Files.{Contents, name_cmp}
 use Rattle.ix_dir.specs.Images.{Value, values_of, values_step, last_alone}
 use Rattle.ix_dir.specs.Moves.{Move, Renamed, Removed, Synced, Placed, same_area, same_name}
 use Rattle.ix_dir.specs.PlacedValues.{value_at, last_place, place_step, puts_name}
-use Rattle.ix_dir.specs.Places.{Lists, place_of}
-use Rattle.ix_dir.proofs.Rows.{same_keys, holds}
 
 pub values_of-append : (moves : List Move) (m : Move) (area : Area) (name : List ℕ) → values_of (moves ++ m ∷ []) area name ≡ values_step area name (values_of moves area name) m
 values_of-append moves m area name = fold-append (values_step area name) (None ∷ []) moves (m ∷ [])
@@ -38,7 +32,7 @@ pub any_map : {A B : Type 0} (p : B → Bool) (f : A → B) (xs : List A) → li
 any_map p f [] = refl
 any_map p f (x ∷ xs) = ap (λ b. p (f x) || b) (any_map p f xs)
 
-pub map-length : {A B : Type 0} (f : A → B) (xs : List A) → length (map f xs) ≡ length xs
+map-length : {A B : Type 0} (f : A → B) (xs : List A) → length (map f xs) ≡ length xs
 map-length f [] = refl
 map-length f (x ∷ xs) = ap suc (map-length f xs)
 
@@ -91,22 +85,3 @@ module _ (moves : List Move) where
       ∙ ap (λ values. values_step area name values m) so_far
       ∙ sym (values_of-append (take k moves) m area name)
       ∙ ap (λ ms. values_of ms area name) (sym (taken k m lt is))
-
-  pub puts_more : (area : Area) (q : List ℕ) (k : ℕ) (m : Move) → k < length moves → m ≡ get_or moves k m
-      → is_some (get (puts (take (k + 1) moves) area) q) ≡ (puts_name area q m || is_some (get (puts (take k moves) area) q))
-  puts_more area q k m lt is =
-      ap (λ ms. is_some (get (puts ms area) q)) (taken k m lt is)
-      ∙ ap (λ p. is_some (get p q)) (fold-append (puts_step area) empty (take k moves) (m ∷ []))
-      ∙ put_step area q (puts (take k moves) area) m
-
-names_rows : (listed : List Listed) → keys_of (map (λ l. (l.name, l.stamp)) listed) ≡ map (λ l. l.name) listed
-names_rows [] = refl
-names_rows (l ∷ listed) = ap (λ rest. l.name ∷ rest) (names_rows listed)
-
--- the names that a list has are those of the map, where they have places for the same names
-pub names_ok : {E : Type 0} (r : Result (Vec Listed Global) E) (places : Places) (area : Area) (all : Contents) → ((q : List ℕ) → is_some (place_of places area q) ≡ is_some (get all q))
-    → IfOk r (λ l. Lists places area l.items) → IfOk r (λ l. map (λ x. x.name) l.items ≡ keys all)
-names_ok (Ok l) places area all alike lists =
-    sym (names_rows l.items) ∙ same_keys (map (λ x. (x.name, x.stamp)) l.items) (entries all) lists.rising (holds _ (entries_sorted all))
-    (λ q. ap is_some (lists.each q) ∙ alike q ∙ ap is_some (get-entries all q))
-names_ok (Err e) places area all alike lists = tt

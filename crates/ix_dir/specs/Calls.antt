@@ -1,11 +1,12 @@
 -- What a call does to what contracts see of a directory.
-use Rattle.std.specs.Prelude.{◌≡◌, ◌≢◌, ℕ, ◌≤◌, List, [], ◌∷◌, ◌++◌, Bool, false, if◌then◌else◌, ◌&&◌, Option, Result, Ok, Err, is_some, IfSome, MatchBool}
+use Rattle.std.specs.Prelude.{◌≡◌, ◌≢◌, ℕ, ◌≤◌, List, [], ◌∷◌, ◌++◌, Bool, true, false, if◌then◌else◌, ◌&&◌, Option, Result, Ok, Err, is_some, IfSome, MatchBool}
 use Rattle.std.specs.FinMap.{get}
 use Rattle.std.specs.Option.{option_map}
 use Rattle.ix_types.specs.Count.{Rose}
 use Rattle.ix_dir.specs.declared.area.Area.{Area}
 use Rattle.ix_dir.specs.declared.area.Area.TheVariants.{Records}
 use Rattle.ix_dir.specs.declared.dir.DirError.{DirError}
+use Rattle.ix_dir.specs.declared.dir.DirError.TheVariants.{Failed, Memory}
 use Rattle.ix_dir.specs.Moves.{Move, Renamed, Removed, same_area, area_after}
 use Rattle.ix_dir.specs.Stamps.{IsFresh}
 
@@ -31,10 +32,11 @@ removed moves area name = option_map (moves_removed area name) moves
 abbrev pub CountsWhere : Bool → ℕ → ℕ → Type 0
 CountsWhere counted before now = MatchBool counted ((before ≤ now) × Rose before now) (now ≡ before)
 
--- the count of faults doesn't fall, and rises where the call fails
-pub record HasCause (before now : ℕ) (Fails : Type 0) : Type 0 where
-  pub later : before ≤ now
-  pub rose : Fails → Rose before now
+-- the outside failed
+abbrev pub is_failed : {X : Type 0} → Result X DirError → Bool
+is_failed (Ok x) = false
+is_failed (Err Failed) = true
+is_failed (Err Memory) = false
 
 -- the read found a record file
 abbrev pub is_find : {X : Type 0} → Area → Result (Option X) DirError → Bool

@@ -49,6 +49,10 @@ IsPicked pick moves left = (area : Area) → LeavesOf pick moves area (names_sin
 abbrev pub standing : List Move → Image
 standing moves area = contents_of (area_after moves area)
 
--- nothing is pending: a crash leaves what stands
+-- nothing of the area is pending: a crash leaves there what stands
+abbrev pub IsSettledIn : Area → List Move → Type 0
+IsSettledIn area moves = (name : List ℕ) → values_of moves area name ≡ bytes_at (area_after moves area) name ∷ []
+
+-- nothing is pending
 abbrev pub IsSettled : List Move → Type 0
-IsSettled moves = (area : Area) (name : List ℕ) → values_of moves area name ≡ bytes_at (area_after moves area) name ∷ []
+IsSettled moves = (area : Area) → IsSettledIn area moves

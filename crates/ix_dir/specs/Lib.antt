@@ -1,11 +1,15 @@
 pub mod Calls
 pub mod Crash
 pub mod Files
+pub mod Held
 pub mod Images
 pub mod InMemory
 pub mod Kept
+pub mod Leaves
 pub mod Moments
 pub mod Moves
+pub mod Pending
 pub mod PlacedValues
 pub mod Places
 pub mod Stamps
+pub mod Untold

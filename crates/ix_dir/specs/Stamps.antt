@@ -1,5 +1,5 @@
 -- The stamps that files of a name had.
-use Rattle.std.specs.Prelude.{ℕ, ◌≢◌, List, [], ◌∷◌, if◌then◌else◌, flat_map, All}
+use Rattle.std.specs.Prelude.{ℕ, ◌≡◌, ◌≢◌, Some, slice_get, List, [], ◌∷◌, if◌then◌else◌, flat_map, All}
 use Rattle.ix_dir.specs.Moves.{Move, Renamed, Removed, Synced, Placed, same_name}
 
 -- the stamp that a move gave the name, if it did
@@ -16,3 +16,8 @@ stamps_of moves name = flat_map (stamp_given name) moves
 -- no earlier file of the name had the stamp
 abbrev pub IsFresh : List Move → List ℕ → ℕ → Type 0
 IsFresh moves name stamp = All (λ earlier. earlier ≢ stamp) (stamps_of moves name)
+
+-- no stamp was given to a name twice
+unfoldable pub HasFreshStamps : List Move → Type 0
+HasFreshStamps moves =
+    (name : List ℕ) (j k stamp : ℕ) → slice_get (stamps_of moves name) j ≡ Some stamp → slice_get (stamps_of moves name) k ≡ Some stamp → j ≡ k

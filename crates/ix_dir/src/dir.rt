@@ -1,9 +1,10 @@
 //! A directory, as the store sees it.
-ghost use Rattle.std.specs.Prelude.{◌≡◌, ◌+◌, ◌<◌, ◌≤◌, ℕ, List, Bool, false, Option, is_ok, IsErr, IsErrOf, IsSome, IsTrue, IfOk, IfSome, OnOk, OnErr};
+ghost use Rattle.std.specs.Prelude.{◌≡◌, ◌+◌, ◌<◌, ◌≤◌, ℕ, List, Bool, false, Option, is_ok, is_err, IsErrOf, IsSome, IsTrue, IfOk, IfSome, OnOk, OnErr};
 ghost use Rattle.ix_dir.specs.declared.dir.DirError.TheVariants.{Memory as NoMemory};
-ghost use Rattle.ix_dir.specs.Calls.{with_move, Renames, removed, CountsWhere, HasCause, is_find, SameSlots, OtherSlotsStay};
+ghost use Rattle.ix_dir.specs.Calls.{with_move, Renames, removed, CountsWhere, is_failed, is_find, SameSlots, OtherSlotsStay};
 ghost use Rattle.ix_dir.specs.Files.{bytes_at, listed_of, IsRising};
 ghost use Rattle.ix_dir.specs.Moves.{Move, Synced, area_after};
+ghost use Rattle.ix_dir.specs.Stamps.{HasFreshStamps};
 
 use crate::area::Area;
 use ix_types::{Failed, FileName, Memory, Seq};
@@ -83,11 +84,12 @@ pub trait Dir {
         ensures listings { listings self.new ≡ listings self.old }
         ensures finds { finds self.new ≡ finds self.old };
 
-    /// The names of an area in rising order, with their stamps.
+    /// The names of an area in rising order, with their stamps. No two files that a name had have one stamp.
     fn list(&mut self, alloc: Global, area: Area) -> Result<Seq<Listed>, DirError>
         ensures listed { IfOk result (λ listed. IfSome (moves self.old) (λ moves. listed ≡ listed_of (area_after moves area))) }
         ensures rising { IfOk result IsRising }
-        ensures cause { HasCause (faults self.old) (faults self.new) (IsErrOf result DirError.Failed) }
+        ensures fresh { OnOk result (IfSome (moves self.old) HasFreshStamps) }
+        ensures cause { CountsWhere (is_failed result) (faults self.old) (faults self.new) }
         ensures listings { CountsWhere (is_ok result) (listings self.old) (listings self.new) }
         ensures finds { finds self.new ≡ finds self.old }
         ensures moves { moves self.new ≡ moves self.old }
@@ -102,7 +104,7 @@ pub trait Dir {
         name: FileName,
     ) -> Result<Option<Seq<u8>>, DirError>
         ensures bytes { IfOk result (λ found. IfSome (moves self.old) (λ moves. found ≡ bytes_at (area_after moves area) name)) }
-        ensures cause { HasCause (faults self.old) (faults self.new) (IsErrOf result DirError.Failed) }
+        ensures cause { CountsWhere (is_failed result) (faults self.old) (faults self.new) }
         ensures listings { listings self.new ≡ listings self.old }
         ensures finds { CountsWhere (is_find area result) (finds self.old) (finds self.new) }
         ensures moves { moves self.new ≡ moves self.old }
@@ -114,7 +116,7 @@ pub trait Dir {
         ensures staged { staged self.new slot ≡ is_ok result }
         ensures bytes { OnOk result (IsSome (moves self.old) → slot_bytes self.new slot ≡ bytes.now) }
         ensures others { OtherSlotsStay slot (staged self.old) (slot_bytes self.old) (staged self.new) (slot_bytes self.new) }
-        ensures cause { HasCause (faults self.old) (faults self.new) (IsErrOf result DirError.Failed) }
+        ensures cause { CountsWhere (is_failed result) (faults self.old) (faults self.new) }
         ensures listings { listings self.new ≡ listings self.old }
         ensures finds { finds self.new ≡ finds self.old }
         ensures moves { moves self.new ≡ moves self.old }
@@ -130,7 +132,7 @@ pub trait Dir {
         ensures others { OtherSlotsStay slot (staged self.old) (slot_bytes self.old) (staged self.new) (slot_bytes self.new) }
         ensures failed { OnErr result (moves self.new ≡ moves self.old) }
         ensures kept { OnErr result (SameSlots (staged self.old) (slot_bytes self.old) (staged self.new) (slot_bytes self.new)) }
-        ensures cause { HasCause (faults self.old) (faults self.new) (IsErr result) }
+        ensures cause { CountsWhere (is_err result) (faults self.old) (faults self.new) }
         ensures listings { listings self.new ≡ listings self.old }
         ensures finds { finds self.new ≡ finds self.old }
         ensures spare { spare self.new + 1 ≡ spare self.old };
@@ -141,7 +143,7 @@ pub trait Dir {
         ensures removed { OnOk result (moves self.new ≡ removed (moves self.old) area name) }
         ensures failed { OnErr result (moves self.new ≡ moves self.old) }
         ensures slots { SameSlots (staged self.old) (slot_bytes self.old) (staged self.new) (slot_bytes self.new) }
-        ensures cause { HasCause (faults self.old) (faults self.new) (IsErr result) }
+        ensures cause { CountsWhere (is_err result) (faults self.old) (faults self.new) }
         ensures listings { listings self.new ≡ listings self.old }
         ensures finds { finds self.new ≡ finds self.old }
         ensures spare { spare self.new + 1 ≡ spare self.old };
@@ -152,7 +154,7 @@ pub trait Dir {
         ensures synced { OnOk result (moves self.new ≡ with_move (moves self.old) (Synced area)) }
         ensures failed { OnErr result (moves self.new ≡ moves self.old) }
         ensures slots { SameSlots (staged self.old) (slot_bytes self.old) (staged self.new) (slot_bytes self.new) }
-        ensures cause { HasCause (faults self.old) (faults self.new) (IsErr result) }
+        ensures cause { CountsWhere (is_err result) (faults self.old) (faults self.new) }
         ensures listings { listings self.new ≡ listings self.old }
         ensures finds { finds self.new ≡ finds self.old }
         ensures spare { spare self.new + 1 ≡ spare self.old };

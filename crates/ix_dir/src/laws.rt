@@ -1,12 +1,16 @@
 //! What follows of moves and of what a crash may leave. A caller's proof gets a law by calling its function, which does nothing.
-ghost use Rattle.std.specs.Prelude.{◌≡◌, ℕ, List, [], ◌∷◌, ◌++◌, Contains};
+ghost use Rattle.std.specs.Prelude.{◌≡◌, ◌↔◌, ℕ, ◌≤◌, List, [], ◌∷◌, ◌++◌, length, take, drop, true, false, ◌&&◌, Option, None, Some, is_some, Contains};
 ghost use Rattle.std.specs.FinMap.{get};
+ghost use Rattle.std.specs.List.{list_any};
 ghost use Rattle.ix_dir.specs.declared.area.Area.{Area};
-ghost use Rattle.ix_dir.specs.Crash.{IsSettled, standing};
-ghost use Rattle.ix_dir.specs.Files.{Files, bytes_at, contents_of};
-ghost use Rattle.ix_dir.specs.Images.{Value, values_of, values_step, last_alone, IsImage};
-ghost use Rattle.ix_dir.specs.Moments.{StoodSince};
-ghost use Rattle.ix_dir.specs.Moves.{Move, Synced, area_after, area_step};
+ghost use Rattle.ix_dir.specs.Calls.{with_move, removed, moves_removed};
+ghost use Rattle.ix_dir.specs.Crash.{IsSettledIn, standing};
+ghost use Rattle.ix_dir.specs.Files.{File, Files, bytes_at, contents_of};
+ghost use Rattle.ix_dir.specs.Images.{Value, values_of, values_step, last_alone, Image, IsImage};
+ghost use Rattle.ix_dir.specs.Leaves.{LeavesAt, Adds, IfTold};
+ghost use Rattle.ix_dir.specs.Moments.{StoodSince, places};
+ghost use Rattle.ix_dir.specs.Moves.{Move, Renamed, Synced, area_after, area_step, same_area, same_name};
+ghost use Rattle.ix_dir.specs.Stamps.{stamps_of, IsFresh, HasFreshStamps};
 
 /// One move more takes its step from what stood before it.
 pub fn area_takes_a_step()
@@ -33,6 +37,11 @@ pub fn values_stood()
     ensures { (moves : List Move) (area : Area) (name : List ℕ) (value : Value) → Contains (values_of moves area name) value → StoodSince moves area name value }
 {}
 
+/// Each value that stood there since the area's last sync is among them, unless a file was placed at the name later.
+pub fn values_that_stood_stay()
+    ensures { (moves : List Move) (area : Area) (name : List ℕ) (value : Value) (since : StoodSince moves area name value) → list_any (places area name) (drop since.moment moves) ≡ false → Contains (values_of moves area name) value }
+{}
+
 /// What stands is one of the images.
 pub fn standing_is_image()
     ensures { (moves : List Move) → IsImage moves (standing moves) }
@@ -41,4 +50,80 @@ pub fn standing_is_image()
 /// Files without their stamps have the bytes that they have.
 pub fn contents_have_bytes()
     ensures { (files : Files) (name : List ℕ) → get (contents_of files) name ≡ bytes_at files name }
+{}
+
+/// After a rename the bytes stand at the name, and all else stands as it did.
+pub fn rename_leaves()
+    ensures { (moves : List Move) (area : Area) (name bytes : List ℕ) (stamp : ℕ) → LeavesAt area name (Some bytes) moves (moves ++ Renamed area name bytes stamp ∷ []) }
+{}
+
+/// After a removal nothing stands at the name, and all else stands as it did.
+pub fn removal_leaves()
+    ensures { (moves : List Move) (area : Area) (name : List ℕ) → LeavesAt area name None moves (moves_removed area name moves) }
+{}
+
+/// After a sync all stands as it did, and nothing of its area is pending.
+pub fn sync_leaves()
+    ensures areas { (moves : List Move) (area a : Area) → area_after (moves ++ Synced area ∷ []) a ≡ area_after moves a }
+    ensures settled { (moves : List Move) (area : Area) → IsSettledIn area (moves ++ Synced area ∷ []) }
+{}
+
+/// Each call of a directory adds moves or leaves them as they were, and what is added in two calls is added in both together.
+pub fn calls_add_moves()
+    ensures added { (moves : Option (List Move)) (move : Move) → IfTold moves (with_move moves move) Adds }
+    ensures removed { (moves : Option (List Move)) (area : Area) (name : List ℕ) → IfTold moves (removed moves area name) Adds }
+    ensures same { (moves : Option (List Move)) → IfTold moves moves Adds }
+    ensures both { (first second third : List Move) → Adds first second → Adds second third → Adds first third }
+{}
+
+/// What a crash may leave at a moment stays the same when moves are added behind it.
+pub fn earlier_images_stay()
+    ensures { (before now : List Move) (moment : ℕ) (image : Image) → Adds before now → moment ≤ length before → IsImage (take moment now) image ↔ IsImage (take moment before) image }
+{}
+
+/// A file that stands has a stamp that was given to its name.
+pub fn standing_stamp_was_given()
+    ensures { (moves : List Move) (area : Area) (name : List ℕ) (file : File) → get (area_after moves area) name ≡ Some file → Contains (stamps_of moves name) file.stamp }
+{}
+
+/// Stamps that were given stay, and those of later moves come behind them.
+pub fn stamps_are_kept()
+    ensures { (moves more : List Move) (name : List ℕ) → stamps_of (moves ++ more) name ≡ stamps_of moves name ++ stamps_of more name }
+{}
+
+/// A rename and a removal leave the values of every other name of both areas, and a sync leaves those of the other area.
+pub fn other_values_stay()
+    ensures renamed { (moves : List Move) (area : Area) (name bytes : List ℕ) (stamp : ℕ) (a : Area) (n : List ℕ) → (same_area a area && same_name name n) ≡ false → values_of (moves ++ Renamed area name bytes stamp ∷ []) a n ≡ values_of moves a n }
+    ensures removed { (moves : List Move) (area : Area) (name : List ℕ) (a : Area) (n : List ℕ) → (same_area a area && same_name name n) ≡ false → values_of (moves_removed area name moves) a n ≡ values_of moves a n }
+    ensures synced { (moves : List Move) (area a : Area) (n : List ℕ) → same_area a area ≡ false → values_of (moves ++ Synced area ∷ []) a n ≡ values_of moves a n }
+{}
+
+/// A rename adds its bytes to the values of its name, and a removal of what stands adds that the name is absent.
+pub fn own_value_is_added()
+    ensures renamed { (moves : List Move) (area : Area) (name bytes : List ℕ) (stamp : ℕ) → values_of (moves ++ Renamed area name bytes stamp ∷ []) area name ≡ values_of moves area name ++ Some bytes ∷ [] }
+    ensures removed { (moves : List Move) (area : Area) (name : List ℕ) → is_some (get (area_after moves area) name) ≡ true → values_of (moves_removed area name moves) area name ≡ values_of moves area name ++ None ∷ [] }
+{}
+
+/// Where nothing of an area is pending, a crash leaves there what stands.
+pub fn settled_area_leaves_what_stands()
+    ensures { (moves : List Move) (area : Area) (image : Image) (name : List ℕ) → IsSettledIn area moves → IsImage moves image → get (image area) name ≡ bytes_at (area_after moves area) name }
+{}
+
+/// What happens in one area leaves nothing pending in the other, where nothing was.
+pub fn other_area_stays_settled()
+    ensures renamed { (moves : List Move) (area : Area) (name bytes : List ℕ) (stamp : ℕ) (a : Area) → same_area a area ≡ false → IsSettledIn a moves → IsSettledIn a (moves ++ Renamed area name bytes stamp ∷ []) }
+    ensures removed { (moves : List Move) (area : Area) (name : List ℕ) (a : Area) → same_area a area ≡ false → IsSettledIn a moves → IsSettledIn a (moves_removed area name moves) }
+    ensures synced { (moves : List Move) (area a : Area) → same_area a area ≡ false → IsSettledIn a moves → IsSettledIn a (moves ++ Synced area ∷ []) }
+{}
+
+/// Where no stamp was given to a name twice, none is after a rename with a stamp that no earlier file of the name had, a removal or a sync.
+pub fn stamps_stay_fresh()
+    ensures renamed { (moves : List Move) (area : Area) (name bytes : List ℕ) (stamp : ℕ) → HasFreshStamps moves → IsFresh moves name stamp → HasFreshStamps (moves ++ Renamed area name bytes stamp ∷ []) }
+    ensures removed { (moves : List Move) (area : Area) (name : List ℕ) → HasFreshStamps moves → HasFreshStamps (moves_removed area name moves) }
+    ensures synced { (moves : List Move) (area : Area) → HasFreshStamps moves → HasFreshStamps (moves ++ Synced area ∷ []) }
+{}
+
+/// Where no stamp was given to a name twice, a name that has the stamp that it had has the file that it had.
+pub fn equal_stamps_mean_the_same_file()
+    ensures { (before now : List Move) (area : Area) (name : List ℕ) (old new : File) → Adds before now → HasFreshStamps now → get (area_after before area) name ≡ Some old → get (area_after now area) name ≡ Some new → old.stamp ≡ new.stamp → old ≡ new }
 {}

@@ -7,9 +7,11 @@ mod dir;
 pub mod laws;
 mod memory;
 mod moves;
+mod pending;
 mod pick;
 mod places;
 mod steady;
+mod untold;
 
 pub use area::Area;
 pub use dir::{Dir, DirError, Listed};
@@ -17,6 +19,7 @@ pub use memory::MemoryDir;
 pub use moves::Move;
 pub use pick::Pick;
 pub use steady::SteadyDir;
+pub use untold::{Reads, UntoldDir};
 
 #[cfg(test)]
 mod tests;

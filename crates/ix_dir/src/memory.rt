@@ -1,14 +1,14 @@
 //! A directory in memory, which keeps its moves.
-ghost use Rattle.std.specs.Prelude.{◌≡◌, ◌≢◌, ◌↔◌, ◌+◌, ◌-◌, ◌<◌, ◌≤◌, ℕ, [], ◌∷◌, ◌++◌, List, Option, None, Some, false, is_ok, is_some, if◌then◌else◌, IsErr, IsErrOf, IsSome, IsTrue, IfOk, IfSome, OnOk, OnErr, length, vec_capacity};
+ghost use Rattle.std.specs.Prelude.{◌≡◌, ◌≢◌, ◌↔◌, ◌+◌, ◌-◌, ◌<◌, ◌≤◌, ℕ, [], ◌∷◌, ◌++◌, List, Option, None, Some, false, is_ok, is_err, is_some, if◌then◌else◌, IsErr, IsErrOf, IsSome, IsTrue, IfOk, IfSome, OnOk, OnErr, length, vec_capacity};
 ghost use Rattle.std.specs.Option.{option_copied, option_map};
 ghost use Rattle.std.specs.FinMap.{get};
-ghost use Rattle.ix_dir.specs.Calls.{with_move, Renames, removed, moves_removed, CountsWhere, HasCause, is_find, SameSlots, OtherSlotsStay};
+ghost use Rattle.ix_dir.specs.Calls.{with_move, Renames, removed, moves_removed, CountsWhere, is_failed, is_find, SameSlots, OtherSlotsStay};
 ghost use Rattle.ix_dir.specs.Crash.{IsPicked, IsSettled, standing};
 ghost use Rattle.ix_dir.specs.Images.{IsImage};
 ghost use Rattle.ix_dir.specs.Files.{bytes_at, listed_of, IsRising};
 ghost use Rattle.ix_dir.specs.InMemory.{InMemory, new_one, counted, next_fails, begun, CallsCounted, placed, slot_at, is_staged, staged_bytes};
 ghost use Rattle.ix_dir.specs.Kept.{IsKept};
-ghost use Rattle.ix_dir.specs.Stamps.{IsFresh};
+ghost use Rattle.ix_dir.specs.Stamps.{IsFresh, HasFreshStamps};
 ghost use Rattle.ix_dir.specs.Moves.{Move, Renamed, Removed, Synced, Placed, area_after};
 
 use crate::area::Area;
@@ -90,7 +90,7 @@ impl MemoryDir {
     fn begin(&mut self) -> bool
         ensures fails { result ≡ next_fails self.old }
         ensures state { self.new ≡ begun self.old }
-        ensures cause { HasCause self.old.faults self.new.faults (IsTrue result) }
+        ensures cause { CountsWhere result self.old.faults self.new.faults }
     {
         self.calls = self.calls.saturating_add(1);
         let fails = self.fails.as_slice().contains(&self.calls);
@@ -189,6 +189,7 @@ impl MemoryDir {
     fn names_of(&mut self, alloc: Global, area: Area) -> Result<Vec<Listed>, AllocError>
         ensures listed { IfOk result (λ listed. listed.items ≡ listed_of (area_after self.old.moves area)) }
         ensures rising { IfOk result (λ listed. IsRising listed.items) }
+        ensures fresh { HasFreshStamps self.old.moves }
         ensures state { self.new ≡ self.old }
     {
         self.places.list(alloc, area)
@@ -227,9 +228,10 @@ impl Dir for MemoryDir {
     fn list(&mut self, alloc: Global, area: Area) -> Result<Seq<Listed>, DirError>
         ensures listed { IfOk result (λ listed. listed ≡ listed_of (area_after self.old.moves area)) }
         ensures rising { IfOk result IsRising }
+        ensures fresh { OnOk result (HasFreshStamps self.old.moves) }
         ensures fails { IsErrOf result DirError.Failed ↔ IsTrue (next_fails self.old) }
         ensures numbers { CallsCounted self.old self.new }
-        ensures cause { HasCause self.old.faults self.new.faults (IsErrOf result DirError.Failed) }
+        ensures cause { CountsWhere (is_failed result) self.old.faults self.new.faults }
         ensures listings { CountsWhere (is_ok result) self.old.listings self.new.listings }
         ensures finds { self.new.finds ≡ self.old.finds }
         ensures moves { self.new.moves ≡ self.old.moves }
@@ -253,7 +255,7 @@ impl Dir for MemoryDir {
         ensures bytes { IfOk result (λ found. found ≡ bytes_at (area_after self.old.moves area) name) }
         ensures fails { IsErrOf result DirError.Failed ↔ IsTrue (next_fails self.old) }
         ensures numbers { CallsCounted self.old self.new }
-        ensures cause { HasCause self.old.faults self.new.faults (IsErrOf result DirError.Failed) }
+        ensures cause { CountsWhere (is_failed result) self.old.faults self.new.faults }
         ensures finds { CountsWhere (is_find area result) self.old.finds self.new.finds }
         ensures listings { self.new.listings ≡ self.old.listings }
         ensures moves { self.new.moves ≡ self.old.moves }
@@ -278,7 +280,7 @@ impl Dir for MemoryDir {
         ensures others { (other : ℕ) → other ≢ slot → slot_at self.new other ≡ slot_at self.old other }
         ensures fails { IsErrOf result DirError.Failed ↔ IsTrue (next_fails self.old) }
         ensures numbers { CallsCounted self.old self.new }
-        ensures cause { HasCause self.old.faults self.new.faults (IsErrOf result DirError.Failed) }
+        ensures cause { CountsWhere (is_failed result) self.old.faults self.new.faults }
         ensures listings { self.new.listings ≡ self.old.listings }
         ensures finds { self.new.finds ≡ self.old.finds }
         ensures moves { self.new.moves ≡ self.old.moves }
@@ -305,7 +307,7 @@ impl Dir for MemoryDir {
         ensures kept { OnErr result (self.new.slots ≡ self.old.slots) }
         ensures fails { IsErr result ↔ IsTrue (next_fails self.old) }
         ensures numbers { CallsCounted self.old self.new }
-        ensures cause { HasCause self.old.faults self.new.faults (IsErr result) }
+        ensures cause { CountsWhere (is_err result) self.old.faults self.new.faults }
         ensures listings { self.new.listings ≡ self.old.listings }
         ensures finds { self.new.finds ≡ self.old.finds }
         ensures spare { self.new.spare + 1 ≡ self.old.spare }
@@ -327,7 +329,7 @@ impl Dir for MemoryDir {
         ensures failed { OnErr result (self.new.moves ≡ self.old.moves) }
         ensures fails { IsErr result ↔ IsTrue (next_fails self.old) }
         ensures numbers { CallsCounted self.old self.new }
-        ensures cause { HasCause self.old.faults self.new.faults (IsErr result) }
+        ensures cause { CountsWhere (is_err result) self.old.faults self.new.faults }
         ensures slots { self.new.slots ≡ self.old.slots }
         ensures listings { self.new.listings ≡ self.old.listings }
         ensures finds { self.new.finds ≡ self.old.finds }
@@ -347,7 +349,7 @@ impl Dir for MemoryDir {
         ensures failed { OnErr result (self.new.moves ≡ self.old.moves) }
         ensures fails { IsErr result ↔ IsTrue (next_fails self.old) }
         ensures numbers { CallsCounted self.old self.new }
-        ensures cause { HasCause self.old.faults self.new.faults (IsErr result) }
+        ensures cause { CountsWhere (is_err result) self.old.faults self.new.faults }
         ensures slots { self.new.slots ≡ self.old.slots }
         ensures listings { self.new.listings ≡ self.old.listings }
         ensures finds { self.new.finds ≡ self.old.finds }

@@ -1,0 +1,5 @@
+use Rattle.ix_dir.proofs.Leaves.{without}
+use Rattle.ix_dir.proofs.laws.removal_leaves.Goals as goal
+
+pub returns : goal.returns
+returns c moves area name = without moves area name

@@ -1,0 +1,5 @@
+use Rattle.ix_dir.proofs.Leaves.{renamed}
+use Rattle.ix_dir.proofs.laws.rename_leaves.Goals as goal
+
+pub returns : goal.returns
+returns c moves area name bytes stamp = renamed moves area name bytes stamp
