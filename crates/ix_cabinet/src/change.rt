@@ -3,7 +3,7 @@ ghost use Rattle.std.specs.Prelude.{◌≡◌, ◌⊎◌, ◌+◌, ◌≤◌, tr
 ghost use Rattle.ix_dir.specs.declared.area.Area.TheVariants.{Units};
 ghost use Rattle.ix_dir.specs.Calls.{CountsWhere, SameSlots, OtherSlotsStay};
 ghost use Rattle.ix_dir.specs.Crash.{IsSettledIn};
-ghost use Rattle.ix_dir.specs.Leaves.{LeavesAt, Adds, IfTold};
+ghost use Rattle.ix_dir.specs.Leaves.{LeavesAt, AddsTo, IfTold};
 ghost use Rattle.ix_unit.specs.Spelling.{UnitSpelling};
 ghost use Rattle.ix_unit.specs.Value.{IsValidUnit};
 ghost use Rattle.ix_cabinet.specs.Changes.{Publishes, Removes, failed_in_part, stage_failed};
@@ -54,7 +54,7 @@ pub fn publish_unit<D: Dir>(dir: &mut D, slot: u32, name: FileName) -> Result<Se
     requires room { 2 ≤ D.spare dir.old }
     ensures published { IfOk result (λ settled. Publishes settled name (D.slot_bytes dir.old slot) (D.moves dir.old) (D.moves dir.new)) }
     ensures failed { OnErr result (D.moves dir.new ≡ D.moves dir.old) }
-    ensures added { IfTold (D.moves dir.old) (D.moves dir.new) Adds }
+    ensures added { AddsTo (D.moves dir.old) (D.moves dir.new) }
     ensures left { OnOk result (IfTold (D.moves dir.old) (D.moves dir.new) (LeavesAt Units name (Some (D.slot_bytes dir.old slot)))) }
     ensures settled { result ≡ Ok Settled.Synced → IfSome (D.moves dir.new) (IsSettledIn Units) }
     ensures emptied { OnOk result (D.staged dir.new slot ≡ false) }
@@ -83,7 +83,7 @@ pub fn remove_unit<D: Dir>(dir: &mut D, name: FileName) -> Result<Settled, Faile
     requires { 2 ≤ D.spare dir.old }
     ensures removed { IfOk result (λ settled. Removes settled name (D.moves dir.old) (D.moves dir.new)) }
     ensures failed { OnErr result (D.moves dir.new ≡ D.moves dir.old) }
-    ensures added { IfTold (D.moves dir.old) (D.moves dir.new) Adds }
+    ensures added { AddsTo (D.moves dir.old) (D.moves dir.new) }
     ensures left { OnOk result (IfTold (D.moves dir.old) (D.moves dir.new) (LeavesAt Units name None)) }
     ensures settled { result ≡ Ok Settled.Synced → IfSome (D.moves dir.new) (IsSettledIn Units) }
     ensures slots { SameSlots (D.staged dir.old) (D.slot_bytes dir.old) (D.staged dir.new) (D.slot_bytes dir.new) }

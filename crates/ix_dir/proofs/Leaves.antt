@@ -7,7 +7,7 @@ use Rattle.ix_dir.specs.Calls.{with_move, moves_removed}
 use Rattle.ix_dir.specs.Crash.{IsSettledIn}
 use Rattle.ix_dir.specs.Files.{File, file, bytes_at}
 use Rattle.ix_dir.specs.Images.{Value, Image, IsImage}
-use Rattle.ix_dir.specs.Leaves.{LeavesAt, Adds, IfTold}
+use Rattle.ix_dir.specs.Leaves.{LeavesAt, Adds, AddsTo}
 use Rattle.ix_dir.specs.Moves.{Move, Renamed, Removed, Synced, area_after, same_area, same_name}
 use Rattle.ix_dir.proofs.Left.{same_area_itself, same_name_itself}
 use Rattle.ix_dir.proofs.Since.{synced_stands}
@@ -71,7 +71,7 @@ append_none (x ∷ xs) = ap (λ rest. x ∷ rest) (append_none xs)
 no_more : (moves : List Move) → Adds moves moves
 no_more moves = record { more = []; added = sym (append_none moves) }
 
-pub added_move : (moves : Option (List Move)) (move : Move) → IfTold moves (with_move moves move) Adds
+pub added_move : (moves : Option (List Move)) (move : Move) → AddsTo moves (with_move moves move)
 added_move None move = tt
 added_move (Some ms) move = record { more = move ∷ []; added = refl }
 
@@ -79,16 +79,24 @@ added_if : (b : Bool) (moves : List Move) (move : Move) → Adds moves (cond b (
 added_if true moves move = record { more = move ∷ []; added = refl }
 added_if false moves move = no_more moves
 
-pub added_removal : (moves : Option (List Move)) (area : Area) (name : List ℕ) → IfTold moves (option_map (moves_removed area name) moves) Adds
+pub added_removal : (moves : Option (List Move)) (area : Area) (name : List ℕ) → AddsTo moves (option_map (moves_removed area name) moves)
 added_removal None area name = tt
 added_removal (Some ms) area name = added_if (is_some (get (area_after ms area) name)) ms (Removed area name)
 
-pub added_none : (moves : Option (List Move)) → IfTold moves moves Adds
+pub added_none : (moves : Option (List Move)) → AddsTo moves moves
 added_none None = tt
 added_none (Some ms) = no_more ms
 
-pub added_both : (first second third : List Move) → Adds first second → Adds second third → Adds first third
-added_both first second third a b = record { more = a.more ++ b.more; added = b.added ∙ ap (λ ms. ms ++ b.more) a.added ∙ append_assoc first a.more b.more }
+two_added : (first second third : List Move) → Adds first second → Adds second third → Adds first third
+two_added first second third a b = record { more = a.more ++ b.more; added = b.added ∙ ap (λ ms. ms ++ b.more) a.added ∙ append_assoc first a.more b.more }
+
+pub added_both : (first second third : Option (List Move)) → AddsTo first second → AddsTo second third → AddsTo first third
+added_both None None None a b = tt
+added_both None None (Some z) a b = absurd b
+added_both None (Some y) z a b = absurd a
+added_both (Some x) None z a b = absurd a
+added_both (Some x) (Some y) None a b = absurd b
+added_both (Some x) (Some y) (Some z) a b = two_added x y z a b
 
 pub images_stay : (before now : List Move) (moment : ℕ) (image : Image) → Adds before now → moment ≤ length before → IsImage (take moment now) image ↔ IsImage (take moment before) image
 images_stay before now moment image adds within =

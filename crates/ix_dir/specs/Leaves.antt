@@ -1,5 +1,5 @@
 -- What a change leaves in both areas.
-use Rattle.std.specs.Prelude.{◌≡◌, ℕ, List, ◌++◌, ◌&&◌, false, Option, IfSome}
+use Rattle.std.specs.Prelude.{◌≡◌, ℕ, List, ◌++◌, ◌&&◌, false, Option, None, Some, IfSome}
 use Rattle.std.specs.FinMap.{get}
 use Rattle.ix_dir.specs.declared.area.Area.{Area}
 use Rattle.ix_dir.specs.Files.{bytes_at}
@@ -15,6 +15,13 @@ pub record LeavesAt (area : Area) (name : List ℕ) (value : Value) (before now 
 pub record Adds (before now : List Move) : Type 0 where
   pub more : List Move
   pub added : now ≡ before ++ more
+
+-- moves are told now exactly where they were before, and none of those before is gone
+abbrev pub AddsTo : Option (List Move) → Option (List Move) → Type 0
+AddsTo None None = Unit {0}
+AddsTo None (Some now) = ⊥
+AddsTo (Some before) None = ⊥
+AddsTo (Some before) (Some now) = Adds before now
 
 -- where the directory tells its moves, before and now
 abbrev pub IfTold : Option (List Move) → Option (List Move) → (List Move → List Move → Type 0) → Type 0

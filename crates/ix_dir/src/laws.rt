@@ -7,7 +7,7 @@ ghost use Rattle.ix_dir.specs.Calls.{with_move, removed, moves_removed};
 ghost use Rattle.ix_dir.specs.Crash.{IsSettledIn, standing};
 ghost use Rattle.ix_dir.specs.Files.{File, Files, bytes_at, contents_of};
 ghost use Rattle.ix_dir.specs.Images.{Value, values_of, values_step, last_alone, Image, IsImage};
-ghost use Rattle.ix_dir.specs.Leaves.{LeavesAt, Adds, IfTold};
+ghost use Rattle.ix_dir.specs.Leaves.{LeavesAt, Adds, AddsTo};
 ghost use Rattle.ix_dir.specs.Moments.{StoodSince, places};
 ghost use Rattle.ix_dir.specs.Moves.{Move, Renamed, Synced, area_after, area_step, same_area, same_name};
 ghost use Rattle.ix_dir.specs.Stamps.{stamps_of, IsFresh, HasFreshStamps};
@@ -70,10 +70,10 @@ pub fn sync_leaves()
 
 /// Each call of a directory adds moves or leaves them as they were, and what is added in two calls is added in both together.
 pub fn calls_add_moves()
-    ensures added { (moves : Option (List Move)) (move : Move) → IfTold moves (with_move moves move) Adds }
-    ensures removed { (moves : Option (List Move)) (area : Area) (name : List ℕ) → IfTold moves (removed moves area name) Adds }
-    ensures same { (moves : Option (List Move)) → IfTold moves moves Adds }
-    ensures both { (first second third : List Move) → Adds first second → Adds second third → Adds first third }
+    ensures added { (moves : Option (List Move)) (move : Move) → AddsTo moves (with_move moves move) }
+    ensures removed { (moves : Option (List Move)) (area : Area) (name : List ℕ) → AddsTo moves (removed moves area name) }
+    ensures same { (moves : Option (List Move)) → AddsTo moves moves }
+    ensures both { (first second third : Option (List Move)) → AddsTo first second → AddsTo second third → AddsTo first third }
 {}
 
 /// What a crash may leave at a moment stays the same when moves are added behind it.

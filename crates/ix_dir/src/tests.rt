@@ -129,6 +129,49 @@ fn check_synced(alloc: Global, rt: &impl Abort, dir: &MemoryDir) -> Result<(), F
     check_left(alloc, rt, dir, Pick::Nth(1), b"u 77=7 ab=4 ef=5 r ab=r")
 }
 
+/// Two renames to one name.
+fn check_twice(alloc: Global, rt: &impl Abort, dir: &MemoryDir) -> Result<(), Fail> {
+    check_left(alloc, rt, dir, Pick::Oldest, b"u r")?;
+    check_left(alloc, rt, dir, Pick::Nth(1), b"u ab=x r")?;
+    check_left(alloc, rt, dir, Pick::Nth(4), b"u ab=x r")?;
+    check_left(alloc, rt, dir, Pick::Newest, b"u ab=y r")
+}
+
+/// The same two, synced.
+fn check_twice_synced(alloc: Global, rt: &impl Abort, dir: &MemoryDir) -> Result<(), Fail> {
+    check_left(alloc, rt, dir, Pick::Oldest, b"u ab=y r")?;
+    check_left(alloc, rt, dir, Pick::Nth(1), b"u ab=y r")?;
+    check_left(alloc, rt, dir, Pick::Nth(4), b"u ab=y r")?;
+    check_left(alloc, rt, dir, Pick::Newest, b"u ab=y r")
+}
+
+#[test]
+fn a_crash_leaves_one_of_the_values(rt: HostRuntime) -> Result<(), Fail> {
+    let alloc = rt.alloc();
+    let mut dir = MemoryDir::new(alloc);
+    take_steps(alloc, &rt, &mut dir, "u ab x,u ab y")?;
+    check_twice(alloc, &rt, &dir)?;
+    take_steps(alloc, &rt, &mut dir, "u")?;
+    check_twice_synced(alloc, &rt, &dir)
+}
+
+/// The second removal finds nothing, and counts for nothing.
+fn check_equal(alloc: Global, rt: &impl Abort, dir: &MemoryDir) -> Result<(), Fail> {
+    check_left(alloc, rt, dir, Pick::Nth(0), b"u ab=p r")?;
+    check_left(alloc, rt, dir, Pick::Nth(2), b"u ab=x r")?;
+    check_left(alloc, rt, dir, Pick::Nth(3), b"u r")?;
+    check_left(alloc, rt, dir, Pick::Nth(4), b"u ab=p r")
+}
+
+#[test]
+fn equal_values_and_removals_count(rt: HostRuntime) -> Result<(), Fail> {
+    let alloc = rt.alloc();
+    let mut dir = MemoryDir::new(alloc);
+    dir.place(alloc, Area::Units, named(&rt, b"ab"), b"p")?;
+    take_steps(alloc, &rt, &mut dir, "u ab x,u ab x,u ab -,u ab -")?;
+    check_equal(alloc, &rt, &dir)
+}
+
 #[test]
 fn a_crash_leaves_each_name_one_of_its_values(rt: HostRuntime) -> Result<(), Fail> {
     let alloc = rt.alloc();

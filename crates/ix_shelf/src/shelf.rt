@@ -4,7 +4,7 @@ ghost use Rattle.ix_types.specs.Count.{Rose};
 ghost use Rattle.ix_dir.specs.declared.area.Area.{Area};
 ghost use Rattle.ix_dir.specs.declared.area.Area.TheVariants.{Records};
 ghost use Rattle.ix_dir.specs.Calls.{with_move, Renames, removed, CountsWhere, SameSlots, OtherSlotsStay};
-ghost use Rattle.ix_dir.specs.Leaves.{LeavesAt, Adds, IfTold};
+ghost use Rattle.ix_dir.specs.Leaves.{LeavesAt, AddsTo, IfTold};
 ghost use Rattle.ix_dir.specs.declared.moves.Move.TheVariants.{Synced};
 ghost use Rattle.ix_dir.specs.Moves.{area_after};
 ghost use Rattle.ix_shelf.specs.Answers.{record_at, put_answer, Answers, put_failed, leaves_file, load_failed, StandsWhole, IsRecordOf};
@@ -71,7 +71,7 @@ impl Shelf {
         // One rename where it is written, and else no move.
         ensures renamed { result ≡ Ok Put.Written → Renames (D.moves dir.old) (D.moves dir.new) Records body.now.name body.now.bytes }
         ensures kept { result ≢ Ok Put.Written → D.moves dir.new ≡ D.moves dir.old }
-        ensures added { IfTold (D.moves dir.old) (D.moves dir.new) Adds }
+        ensures added { AddsTo (D.moves dir.old) (D.moves dir.new) }
         ensures left { result ≡ Ok Put.Written → IfTold (D.moves dir.old) (D.moves dir.new) (LeavesAt Records body.now.name (Some body.now.bytes)) }
         ensures unsynced { result ≡ Ok Put.Written → self.new.unsynced ≡ true }
         ensures same { result ≢ Ok Put.Written → self.new ≡ self.old }
@@ -145,7 +145,7 @@ impl Shelf {
         requires { 0 < D.spare dir.old }
         ensures synced { OnOk result (D.moves dir.new ≡ (if self.old.unsynced then with_move (D.moves dir.old) (Synced Records) else D.moves dir.old)) }
         ensures failed { OnErr result (D.moves dir.new ≡ D.moves dir.old) }
-        ensures added { IfTold (D.moves dir.old) (D.moves dir.new) Adds }
+        ensures added { AddsTo (D.moves dir.old) (D.moves dir.new) }
         ensures areas { IfTold (D.moves dir.old) (D.moves dir.new) (λ before now. (area : Area) → area_after now area ≡ area_after before area) }
         ensures waits { OnErr result (self.old.unsynced ≡ true) }
         ensures done { OnOk result (self.new.unsynced ≡ false) }
@@ -173,7 +173,7 @@ impl Shelf {
         requires { 0 < D.spare dir.old }
         ensures removed { OnOk result (D.moves dir.new ≡ removed (D.moves dir.old) Records name) }
         ensures failed { OnErr result (D.moves dir.new ≡ D.moves dir.old) }
-        ensures added { IfTold (D.moves dir.old) (D.moves dir.new) Adds }
+        ensures added { AddsTo (D.moves dir.old) (D.moves dir.new) }
         ensures left { OnOk result (IfTold (D.moves dir.old) (D.moves dir.new) (LeavesAt Records name None)) }
         ensures unsynced { OnOk result (self.new.unsynced ≡ true) }
         ensures same { OnErr result (self.new ≡ self.old) }

@@ -4,7 +4,7 @@ use Rattle.ix_dir.specs.Leaves.{LeavesAt}
 use Rattle.ix_types.specs.Name.{sha_name}
 use Rattle.ix_unit.specs.Spelling.{UnitSpelling}
 use Rattle.ix_cabinet.specs.Scan.{HoldsUnits, IsUnitFile}
-use Rattle.ix_cabinet.proofs.Held.{held_after, none_published}
+use Rattle.ix_cabinet.proofs.Held.{held_after}
 use Rattle.ix_cabinet.proofs.tests.publish.Goals as goal
 
 pub returns : goal.returns
@@ -20,4 +20,4 @@ returns g c =
     let spelled : (b : _) → before ≡ Some b → UnitSpelling bytes unit = λ b is. subst (λ x. UnitSpelling x unit) (sym (c.reserve.ensures.slots 0).1) (c.in_ok-stage_unit.ensures.bytes (told b is)) in
     let file : (b : _) → before ≡ Some b → IsUnitFile sha_name name bytes = λ b is. record { unit = unit; spelled = spelled b is; named = c.name.ensures ∙ ap sha_name c.bytes.ensures.value } in
     let law = c.changes_keep_units.ensures.put in
-    held_after (HoldsUnits sha_name) (LeavesAt Units name (Some bytes)) before now c.publish_unit.result (λ b n is h l. law sha_name name bytes b n h (file b is) l) held (none_published c.publish_unit.result name bytes before now c.publish_unit.ensures.published c.publish_unit.ensures.failed) c.publish_unit.ensures.failed c.publish_unit.ensures.left
+    held_after (HoldsUnits sha_name) (LeavesAt Units name (Some bytes)) before now c.publish_unit.result (λ b n is h l. law sha_name name bytes b n h (file b is) l) held c.publish_unit.ensures.added c.publish_unit.ensures.failed c.publish_unit.ensures.left
