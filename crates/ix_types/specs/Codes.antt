@@ -1,5 +1,7 @@
 -- The code tables: each a list of rows, a code and its name.
-use Rattle.std.specs.Prelude.{ℕ, ◌==◌, nat_eq, ◌≤◌, filter, List, [], ◌∷◌, map, length, Bool, codes, Option}
+use Rattle.std.specs.Prelude.{◌≡◌, ℕ, ◌==◌, ◌^◌, nat_eq, nat_le, ◌≤◌, filter, List, [], ◌∷◌, map, length, sum, Bool, not, codes, Option, bit_and}
+use Rattle.std.specs.Option.{option_map}
+use Rattle.ix_types.specs.declared.code.TheConstants.Roles.{RELATIONS}
 use Rattle.std.specs.Int.{bit_at}
 use Rattle.std.specs.List.{list_any, join_with_byte, IsDistinct}
 use Rattle.std.specs.Map.{keys_of, lookup}
@@ -70,7 +72,8 @@ abbrev pub queries : Table
 queries =
     (0, codes "def") ∷ (1, codes "refs") ∷ (2, codes "occ") ∷ (3, codes "rel") ∷ (4, codes "callers") ∷ (5, codes "overrides")
     ∷ (6, codes "name") ∷ (7, codes "pattern") ∷ (8, codes "symbols") ∷ (9, codes "mains") ∷ (10, codes "units")
-    ∷ (11, codes "includes") ∷ (12, codes "includers") ∷ []
+    ∷ (11, codes "includes") ∷ (12, codes "includers") ∷ (13, codes "incoming") ∷ (14, codes "outgoing")
+    ∷ (15, codes "supertypes") ∷ (16, codes "subtypes") ∷ (17, codes "codegen") ∷ []
 
 -- the words of steps
 abbrev pub verbs : Table
@@ -82,6 +85,32 @@ verbs =
 abbrev pub words_of : Table → ℕ → List ℕ
 words_of table bits = join_with_byte 43 (map (λ row. row.1) (filter (λ row. bit_at bits row.0 == 1) table))
 
+-- the code of structs among the kinds
+abbrev pub struct_code : ℕ
+struct_code = 6
+
+-- the code of Swift among the languages
+abbrev pub swift_code : ℕ
+swift_code = 100
+
+-- the mask of a bit that has a name
+abbrev pub mask_of_name : Table → List ℕ → Option ℕ
+mask_of_name table name = option_map (λ bit. 2 ^ bit) (code_of_name table name)
+
+-- the mask of the bits from one on
+abbrev pub masks_from : ℕ → Table → ℕ
+masks_from first table = sum (map (λ row. 2 ^ row.0) (filter (λ row. nat_le first row.0) table))
+
 -- the bits of the relations, 9 to 18
 abbrev pub relation_bits : ℕ
-relation_bits = 523776
+relation_bits = RELATIONS
+
+-- whether some roles have a bit of the mask
+abbrev pub has_any : ℕ → ℕ → Bool
+has_any roles mask = not (bit_and roles mask == 0)
+
+-- a bit that is set in both
+pub record ShareBit (roles mask : ℕ) : Type 0 where
+  pub bit : ℕ
+  pub in_roles : bit_at roles bit ≡ 1
+  pub in_mask : bit_at mask bit ≡ 1

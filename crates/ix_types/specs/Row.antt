@@ -5,6 +5,7 @@ use Rattle.std.specs.Ordering.{nat_cmp, ordering_then}
 use Rattle.std.specs.Cmp.Lexicographic.{slice_cmp}
 use Rattle.ix_types.specs.declared.row.RelRow.{RelRow}
 use Rattle.ix_types.specs.declared.row.OccRow.{OccRow}
+use Rattle.ix_types.specs.declared.row.EdgeRow.{EdgeRow}
 
 -- texts and names are ordered by their bytes, a proper prefix being the smaller
 abbrev pub text_cmp : List ℕ → List ℕ → Ordering
@@ -25,3 +26,12 @@ occurrence_cmp a b =
     (ordering_then (nat_cmp a.props b.props)
     (ordering_then (nat_cmp a.roles b.roles)
     (slice_cmp relation_cmp a.relations b.relations)))))))))
+
+abbrev pub edge_cmp : EdgeRow → EdgeRow → Ordering
+edge_cmp a b =
+    ordering_then (nat_cmp a.depth b.depth)
+    (ordering_then (text_cmp a.from b.from)
+    (ordering_then (text_cmp a.to b.to)
+    (ordering_then (text_cmp a.path b.path)
+    (ordering_then (nat_cmp a.line b.line)
+    (nat_cmp a.column b.column)))))

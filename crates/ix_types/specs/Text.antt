@@ -1,12 +1,13 @@
 -- What a text is, and why bytes are none.
 use Rattle.std.specs.Prelude.{◌≡◌, ℕ, ◌==◌, ◌||◌, nat_lt, if◌then◌else◌, List, length, Bool, Option, Some, None, position}
 use Rattle.std.specs.Str.Lossy.{utf8_valid_len}
+use Rattle.ix_types.specs.declared.text.TheConstants.Text.{MAX_LEN}
 use Rattle.ix_types.specs.declared.text.TextError.{TextError}
 use Rattle.ix_types.specs.declared.text.TextError.TheVariants.{Empty, TooLong, NotUtf8, Control}
 
 -- the most bytes that a text has
 abbrev pub max_text_len : ℕ
-max_text_len = 4096
+max_text_len = MAX_LEN
 
 -- U+0000 to U+001F and U+007F
 abbrev pub is_control : ℕ → Bool

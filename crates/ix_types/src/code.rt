@@ -1,9 +1,9 @@
 //! The codes of symbols and occurrences: kinds, languages, roles and properties.
 ghost use Rattle.std.specs.Prelude.{◌≡◌, ◌++◌, OnOk, OnErr, ◌↔◌, ◌<◌, ◌≢◌, ◌^◌, IsTrue, IsSome, IfSome, bit_and};
-ghost use Rattle.ix_types.specs.Codes.{has_code, name_of_code, words_of, kinds as kind_rows, langs as lang_rows, roles as role_rows, props as prop_rows, relation_bits};
+ghost use Rattle.ix_types.specs.Codes.{has_code, name_of_code, words_of, has_any, kinds as kind_rows, langs as lang_rows, roles as role_rows, props as prop_rows, relation_bits};
 
 use crate::code_table::{name_among, push_names_of};
-use crate::memory::Memory;
+use crate::failures::Memory;
 use crate::tables::{KINDS, LANGS, PROPS, ROLES, is_kind, is_lang};
 use std::marker::Model;
 
@@ -84,6 +84,9 @@ impl Model for Props {
 }
 
 impl Kind {
+    /// The kind of structs.
+    pub const STRUCT: Kind = Kind { code: 6 };
+
     /// The kind of a code; None where no kind has it.
     pub fn new(bits: u32) -> Option<Kind>
         ensures known { IsSome result ↔ IsTrue (has_code kind_rows bits) }
@@ -116,6 +119,9 @@ impl Kind {
 }
 
 impl Lang {
+    /// Swift.
+    pub const SWIFT: Lang = Lang { code: 100 };
+
     /// The language of a code; None where no language has it.
     pub fn new(bits: u32) -> Option<Lang>
         ensures known { IsSome result ↔ IsTrue (has_code lang_rows bits) }
@@ -148,11 +154,65 @@ impl Lang {
 }
 
 impl Roles {
-    /// The bit of Declaration.
+    /// The mask of Declaration.
     pub const DECLARATION: u32 = 1;
 
-    /// The bit of Definition.
-    pub const DEFINITION: u32 = 2;
+    /// The mask of Definition.
+    pub const DEFINITION: u32 = 1 << 1;
+
+    /// The mask of Reference.
+    pub const REFERENCE: u32 = 1 << 2;
+
+    /// The mask of Read.
+    pub const READ: u32 = 1 << 3;
+
+    /// The mask of Write.
+    pub const WRITE: u32 = 1 << 4;
+
+    /// The mask of Call.
+    pub const CALL: u32 = 1 << 5;
+
+    /// The mask of Dynamic.
+    pub const DYNAMIC: u32 = 1 << 6;
+
+    /// The mask of AddressOf.
+    pub const ADDRESS_OF: u32 = 1 << 7;
+
+    /// The mask of Implicit.
+    pub const IMPLICIT: u32 = 1 << 8;
+
+    /// The mask of ChildOf.
+    pub const CHILD_OF: u32 = 1 << 9;
+
+    /// The mask of BaseOf.
+    pub const BASE_OF: u32 = 1 << 10;
+
+    /// The mask of OverrideOf.
+    pub const OVERRIDE_OF: u32 = 1 << 11;
+
+    /// The mask of ReceivedBy.
+    pub const RECEIVED_BY: u32 = 1 << 12;
+
+    /// The mask of CalledBy.
+    pub const CALLED_BY: u32 = 1 << 13;
+
+    /// The mask of ExtendedBy.
+    pub const EXTENDED_BY: u32 = 1 << 14;
+
+    /// The mask of AccessorOf.
+    pub const ACCESSOR_OF: u32 = 1 << 15;
+
+    /// The mask of ContainedBy.
+    pub const CONTAINED_BY: u32 = 1 << 16;
+
+    /// The mask of IBTypeOf.
+    pub const IB_TYPE_OF: u32 = 1 << 17;
+
+    /// The mask of SpecializationOf.
+    pub const SPECIALIZATION_OF: u32 = 1 << 18;
+
+    /// The mask of all relations.
+    pub const RELATIONS: u32 = 523_776;
 
     /// The roles of some bits; None where a bit past 18 is set.
     pub fn new(bits: u32) -> Option<Roles>
@@ -176,7 +236,7 @@ impl Roles {
 
     /// Whether the two have a bit in common.
     pub fn any(self, mask: Roles) -> bool
-        ensures { IsTrue result ↔ (bit_and self mask ≢ 0) }
+        ensures { result ≡ has_any self mask }
     {
         self.bits & mask.bits != 0
     }
@@ -194,7 +254,7 @@ impl Roles {
         ensures { result ≡ bit_and self relation_bits }
     {
         Roles {
-            bits: self.bits & 523_776,
+            bits: self.bits & Roles::RELATIONS,
         }
     }
 }

@@ -6,19 +6,19 @@ ghost use Rattle.ix_types.specs.CodeRows.{seen};
 ghost use Rattle.std.specs.Int.{bit_at};
 ghost use Rattle.std.specs.Str.{bytes_eq};
 
-use crate::memory::Memory;
+use crate::failures::Memory;
 use arrayvec::ArrayVec;
 use std::marker::Model;
 
 /// A row of a table.
-#[derive(Clone, Copy, Default)]
+#[derive(Clone, Copy, Debug, Default)]
 pub(crate) struct CodeRow {
     pub(crate) code: u32,
     pub(crate) name: &'static str,
 }
 
 /// At most `N` rows of a code and a name. No two rows have the same code, and no two the same name.
-#[derive(Drop)]
+#[derive(Drop, Debug)]
 pub struct CodeTable<const N: usize> {
     rows: ArrayVec<CodeRow, N>,
 }

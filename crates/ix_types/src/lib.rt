@@ -3,8 +3,10 @@
 
 mod code;
 mod code_table;
+mod count;
+mod failures;
+mod format;
 pub mod laws;
-mod memory;
 mod name;
 mod row;
 mod seq;
@@ -15,9 +17,11 @@ mod text;
 
 pub use code::{Kind, Lang, Props, Roles};
 pub use code_table::{CodeTable, push_words};
-pub use memory::{Failed, Memory};
+pub use count::count_up;
+pub use failures::{Failed, Memory};
+pub use format::Format;
 pub use name::{FileName, Naming, Sha};
-pub use row::{OccRow, Query, RelRow, Row};
+pub use row::{EdgeRow, OccRow, Query, RelRow, Row};
 pub use seq::Seq;
 pub use tables::{kinds, langs, props, queries, roles, verbs};
 pub use text::{Text, TextError};

@@ -13,6 +13,7 @@ ghost use Rattle.std.specs.Hash.{same_Alike};
 use sha2::{Digest, Sha256};
 use std::alloc::AllocError;
 use std::cmp::Ordering;
+use std::fmt;
 use std::hash::{Hash, Hasher};
 use std::marker::Model;
 
@@ -95,6 +96,16 @@ fn is_hex(c: u8) -> bool
     ensures { result ≡ is_lower_hex c }
 {
     matches!(c, b'0'..=b'9' | b'a'..=b'f')
+}
+
+/// The digits in quotes.
+impl fmt::Debug for FileName {
+    fn fmt<W: fmt::Write>(&self, f: &mut fmt::Formatter<W>) -> fmt::Result {
+        match str::from_utf8(self.bytes()) {
+            Ok(text) => write!(f, "{text:?}"),
+            Err(_) => Err(fmt::Error),
+        }
+    }
 }
 
 impl Clone for FileName {

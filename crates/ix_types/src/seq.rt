@@ -3,6 +3,7 @@ ghost use Rattle.std.specs.Prelude.{◌≡◌};
 ghost use Rattle.std.specs.Cmp.Lexicographic.{pointwise, slice_cmp, slice_partial_cmp, lists_equiv, lists_agrees, lists_total, lists_ties, lists_po, lists_per};
 
 use std::cmp::Ordering;
+use std::fmt;
 use std::marker::Model;
 
 /// A list of items, over a `Vec`.
@@ -40,6 +41,13 @@ impl<T> Seq<T> {
     {
         let Seq { items } = self;
         items
+    }
+}
+
+/// As a slice.
+impl<T: fmt::Debug> fmt::Debug for Seq<T> {
+    fn fmt<W: fmt::Write>(&self, f: &mut fmt::Formatter<W>) -> fmt::Result {
+        fmt::Debug::fmt(self.as_slice(), f)
     }
 }
 

@@ -172,7 +172,7 @@ pub fn props() -> CodeTable<9>
 }
 
 /// The words of queries.
-pub fn queries() -> CodeTable<13>
+pub fn queries() -> CodeTable<18>
     ensures { result ≡ tables.queries }
 {
     table!(
@@ -189,6 +189,11 @@ pub fn queries() -> CodeTable<13>
         10 = "units",
         11 = "includes",
         12 = "includers",
+        13 = "incoming",
+        14 = "outgoing",
+        15 = "supertypes",
+        16 = "subtypes",
+        17 = "codegen",
     )
 }
 

@@ -1,20 +1,137 @@
-//! Bytes whose readings are known from outside, and each public function once.
+//! Values whose answers are known from outside, and each public function once.
 use super::*;
 use std::alloc::Global;
 use std::cmp::Ordering;
+use std::process::Abort;
 use std::test::Fail;
 
-/// Why the bytes are no text; None where they are one.
-fn fault(alloc: Global, bytes: &[u8]) -> Option<TextError> {
-    match Text::read(alloc, bytes) {
-        Ok(_) => None,
-        Err(fault) => Some(fault),
-    }
-}
+/// Bytes in hex, and why they are no text.
+const TEXTS: &str = r#"|no bytes
+61|
+20|
+7e|
+c280|
+c3a9|
+f09f9880|
+f48fbfbf|
+61ff|not UTF-8 at byte 1
+61c3|not UTF-8 at byte 1
+c080|not UTF-8 at byte 0
+eda080|not UTF-8 at byte 0
+f09f98|not UTF-8 at byte 0
+f4908080|not UTF-8 at byte 0
+0aff|not UTF-8 at byte 1
+610a|a control character at byte 1
+00|a control character at byte 0
+611f|a control character at byte 1
+7f|a control character at byte 0
+c3a90a|a control character at byte 2"#;
+
+/// The rows of the kinds.
+const KINDS: &str = r#"0 Unknown
+1 Module
+2 Namespace
+3 NamespaceAlias
+4 Macro
+5 Enum
+6 Struct
+7 Class
+8 Protocol
+9 Extension
+10 Union
+11 TypeAlias
+12 Function
+13 Variable
+14 Field
+15 EnumConstant
+16 InstanceMethod
+17 ClassMethod
+18 StaticMethod
+19 InstanceProperty
+20 ClassProperty
+21 StaticProperty
+22 Constructor
+23 Destructor
+24 ConversionFunction
+25 Parameter
+26 Using
+1000 CommentTag"#;
+
+/// The rows of the languages.
+const LANGS: &str = r#"0 C
+1 Objective-C
+2 C++
+100 Swift"#;
+
+/// The rows of the roles and relations.
+const ROLES: &str = r#"0 Declaration
+1 Definition
+2 Reference
+3 Read
+4 Write
+5 Call
+6 Dynamic
+7 AddressOf
+8 Implicit
+9 ChildOf
+10 BaseOf
+11 OverrideOf
+12 ReceivedBy
+13 CalledBy
+14 ExtendedBy
+15 AccessorOf
+16 ContainedBy
+17 IBTypeOf
+18 SpecializationOf"#;
+
+/// The rows of the properties.
+const PROPS: &str = r#"0 Generic
+1 TemplatePartialSpecialization
+2 TemplateSpecialization
+3 UnitTest
+4 IBAnnotated
+5 IBOutletCollection
+6 GKInspectable
+7 Local
+8 ProtocolInterface"#;
+
+/// The rows of the words of queries.
+const QUERIES: &str = r#"0 def
+1 refs
+2 occ
+3 rel
+4 callers
+5 overrides
+6 name
+7 pattern
+8 symbols
+9 mains
+10 units
+11 includes
+12 includers
+13 incoming
+14 outgoing
+15 supertypes
+16 subtypes
+17 codegen"#;
+
+/// The rows of the words of steps.
+const VERBS: &str = r#"0 build
+1 remove
+2 poll
+3 refresh
+4 ask
+5 release
+6 collect"#;
 
 /// How two values compare, by the bound alone.
 fn order<T: Ord>(a: &T, b: &T) -> Ordering {
     a.cmp(b)
+}
+
+/// The same by the bound that may give none.
+fn partial_order<T: PartialOrd>(a: &T, b: &T) -> Option<Ordering> {
+    a.partial_cmp(b)
 }
 
 /// Whether two values are equal, by the bound alone.
@@ -26,103 +143,67 @@ fn name_by<N: Naming>(naming: &N, bytes: &[u8]) -> FileName {
     naming.name(bytes)
 }
 
-/// A list of one byte: both ways in which memory can be wanting become Memory.
-fn one(alloc: Global, byte: u8) -> Result<Seq<u8>, Memory> {
-    let mut items = Vec::new(alloc);
-    items.push(byte)?;
-    items.extend_from_slice(&[])?;
-    Ok(Seq::of(items))
+fn text(rt: &impl Abort, alloc: Global, bytes: &[u8]) -> Text {
+    Text::read(alloc, bytes).expect(rt, "a text")
 }
 
-fn text(alloc: Global, bytes: &[u8]) -> Result<Text, TextError> {
-    Text::read(alloc, bytes)
-}
-
-/// A relation of the roles to the USR.
-fn relation(alloc: Global, usr: &[u8], roles: Roles) -> Result<RelRow, TextError> {
-    Ok(RelRow {
-        usr: text(alloc, usr)?,
-        roles,
-    })
+/// Why the bytes are no text; nothing where they are one.
+fn refusal(alloc: Global, bytes: &[u8]) -> Result<String, Fail> {
+    match Text::read(alloc, bytes) {
+        Ok(_) => Ok(String::new(alloc)),
+        Err(fault) => Ok(fault.to_string(alloc)?),
+    }
 }
 
 #[test]
 fn texts_are_refused_by_the_first_cause(rt: HostRuntime) -> Result<(), Fail> {
-    let rows: [(&[u8], Option<TextError>); 20] = [
-        (&[], Some(TextError::Empty)),
-        (&[0x61], None),
-        (&[0x61, 0xff], Some(TextError::NotUtf8 { at: 1 })),
-        (&[0x61, 0x0a], Some(TextError::Control { at: 1 })),
-        (&[0x00], Some(TextError::Control { at: 0 })),
-        (&[0x61, 0x1f], Some(TextError::Control { at: 1 })),
-        (&[0x20], None),
-        (&[0x7e], None),
-        (&[0x7f], Some(TextError::Control { at: 0 })),
-        (&[0xc2, 0x80], None),
-        (&[0x61, 0xc3], Some(TextError::NotUtf8 { at: 1 })),
-        (&[0xc3, 0xa9], None),
-        (&[0xc0, 0x80], Some(TextError::NotUtf8 { at: 0 })),
-        (&[0xed, 0xa0, 0x80], Some(TextError::NotUtf8 { at: 0 })),
-        (&[0xf0, 0x9f, 0x98, 0x80], None),
-        (&[0xf0, 0x9f, 0x98], Some(TextError::NotUtf8 { at: 0 })),
-        (&[0xf4, 0x8f, 0xbf, 0xbf], None),
-        (
-            &[0xf4, 0x90, 0x80, 0x80],
-            Some(TextError::NotUtf8 { at: 0 }),
-        ),
-        (&[0x0a, 0xff], Some(TextError::NotUtf8 { at: 1 })),
-        (&[0xc3, 0xa9, 0x0a], Some(TextError::Control { at: 2 })),
-    ];
-    for (i, (bytes, want)) in rows.iter().enumerate() {
-        assert_eq!(rt; fault(rt.alloc(), bytes), *want, "at row {i}");
+    for line in TEXTS.lines() {
+        let (digits, want) = line.split_once("|").ok_or("no bar")?;
+        let bytes = hex::decode(rt.alloc(), digits.as_bytes())?;
+        let refusal = refusal(rt.alloc(), bytes.as_slice())?;
+        assert_eq!(rt; refusal.as_str(), want, "{line}");
     }
-    let most = vec![in rt.alloc(); b'a'; 4096]?;
-    assert_eq!(rt; fault(rt.alloc(), most.as_slice()), None);
-    let beyond = vec![in rt.alloc(); 0xff; 4097]?;
-    assert_eq!(rt;
-        fault(rt.alloc(), beyond.as_slice()),
-        Some(TextError::TooLong)
-    );
+    Ok(())
+}
+
+/// `len` bytes `a`, and at the end one that is no text.
+fn refused_at(alloc: Global, len: usize) -> Result<String, Fail> {
+    let mut bytes = vec![in alloc; b'a'; len]?;
+    bytes.push(0xff)?;
+    refusal(alloc, bytes.as_slice())
+}
+
+#[test]
+fn texts_have_at_most_4096_bytes(rt: HostRuntime) -> Result<(), Fail> {
+    let within = refused_at(rt.alloc(), 4095)?;
+    assert_eq!(rt; within.as_str(), "not UTF-8 at byte 4095");
+    let beyond = refused_at(rt.alloc(), 4096)?;
+    assert_eq!(rt; beyond.as_str(), "more than 4096 bytes");
     Ok(())
 }
 
 #[test]
-fn texts_keep_their_bytes(rt: HostRuntime) -> Result<(), Fail> {
-    let alloc = rt.alloc();
-    let a = text(alloc, b"a")?;
+fn texts_keep_their_bytes(rt: HostRuntime) {
+    let a = text(&rt, rt.alloc(), b"a");
     assert_eq!(rt; a.bytes(), b"a".as_slice());
-    assert_eq!(rt; a.clone()?.bytes(), b"a".as_slice());
-    assert!(rt; Text::read_or_empty(alloc, &[])?.bytes().is_empty());
-    let refused = match Text::read_or_empty(alloc, &[0x7f]) {
-        Ok(_) => None,
-        Err(fault) => Some(fault),
-    };
-    assert_eq!(rt; refused, Some(TextError::Control { at: 0 }));
-    Ok(())
+    let copy = a.clone().expect(&rt, "memory");
+    assert_eq!(rt; copy.bytes(), b"a".as_slice());
+    let empty = Text::read_or_empty(rt.alloc(), &[]).expect(&rt, "a text");
+    assert!(rt; empty.bytes().is_empty());
+    assert!(rt; Text::read_or_empty(rt.alloc(), &[0x7f]).is_err());
 }
 
 #[test]
-fn names_are_lower_case_hex(rt: HostRuntime) -> Result<(), Fail> {
-    let rows: [(&[u8], bool); 12] = [
-        (b"", false),
-        (b"0", true),
-        (b"9", true),
-        (b"a", true),
-        (b"f", true),
-        (b"g", false),
-        (b"A", false),
-        (b"/", false),
-        (b":", false),
-        (b"`", false),
-        (&[b'a'; 64], true),
-        (&[b'a'; 65], false),
-    ];
-    for (i, (bytes, want)) in rows.iter().enumerate() {
-        assert_eq!(rt; FileName::read(bytes).is_some(), *want, "at row {i}");
+fn names_are_lower_case_hex(rt: HostRuntime) {
+    for digits in "0 9 a f 09af".split(" ") {
+        assert!(rt; FileName::read(digits.as_bytes()).is_some(), "{digits}");
     }
-    let name = FileName::read(b"09af").ok_or("no name")?;
-    assert_eq!(rt; name.clone()?.bytes(), b"09af".as_slice());
-    Ok(())
+    for digits in "g A / : `".split(" ") {
+        assert!(rt; FileName::read(digits.as_bytes()).is_none(), "{digits}");
+    }
+    assert!(rt; FileName::read(&[]).is_none());
+    assert!(rt; FileName::read(&[b'a'; 64]).is_some());
+    assert!(rt; FileName::read(&[b'a'; 65]).is_none());
 }
 
 /// The digests of the standard's text `abc` and of no byte.
@@ -136,206 +217,367 @@ fn sha_names_by_digest(rt: HostRuntime) {
 
 #[test]
 fn codes_are_known_at_their_bounds(rt: HostRuntime) {
-    for (code, want) in [
-        (0, true),
-        (26, true),
-        (27, false),
-        (999, false),
-        (1000, true),
-        (1001, false),
-        (u32::MAX, false),
-    ] {
-        assert_eq!(rt;
-            Kind::new(code).map(|k| k.bits()),
-            if want { Some(code) } else { None }
-        );
+    for code in [27, 999, 1001, u32::MAX] {
+        assert!(rt; Kind::new(code).is_none(), "{code}");
     }
-    for (code, want) in [
-        (0, true),
-        (2, true),
-        (3, false),
-        (99, false),
-        (100, true),
-        (101, false),
-        (u32::MAX, false),
-    ] {
-        assert_eq!(rt;
-            Lang::new(code).map(|l| l.bits()),
-            if want { Some(code) } else { None }
-        );
+    for code in [3, 99, 101, u32::MAX] {
+        assert!(rt; Lang::new(code).is_none(), "{code}");
     }
-    for (bits, want) in [
-        (0, true),
-        (524_287, true),
-        (524_288, false),
-        (u32::MAX, false),
-    ] {
-        assert_eq!(rt;
-            Roles::new(bits).map(|r| r.bits()),
-            if want { Some(bits) } else { None }
-        );
+    for bits in [524_288, u32::MAX] {
+        assert!(rt; Roles::new(bits).is_none(), "{bits}");
     }
-    for (bits, want) in [(0, true), (511, true), (512, false), (u32::MAX, false)] {
-        assert_eq!(rt;
-            Props::new(bits).map(|p| p.bits()),
-            if want { Some(bits) } else { None }
-        );
+    for bits in [512, u32::MAX] {
+        assert!(rt; Props::new(bits).is_none(), "{bits}");
     }
 }
 
-#[test]
-fn roles_share_bits_and_have_relations(rt: HostRuntime) -> Result<(), Fail> {
-    for (a, b, want) in [
-        (3, 2, true),
-        (1, 2, false),
-        (0, 524_287, false),
-        (262_144, 262_144, true),
-    ] {
-        let a = Roles::new(a).ok_or("no roles")?;
-        let b = Roles::new(b).ok_or("no roles")?;
-        assert_eq!(rt; a.any(b), want);
-    }
-    for (bits, want) in [(524_287, 523_776), (511, 0), (512, 512), (262_145, 262_144)] {
-        let roles = Roles::new(bits).ok_or("no roles")?;
-        assert_eq!(rt; roles.relation_part().bits(), want);
-    }
-    Ok(())
+fn roles_of(rt: &impl Abort, bits: u32) -> Roles {
+    Roles::new(bits).expect(rt, "roles")
+}
+
+fn have_common_bit(rt: &impl Abort, a: u32, b: u32) -> bool {
+    roles_of(rt, a).any(roles_of(rt, b))
 }
 
 #[test]
-fn a_proper_prefix_is_the_smaller(rt: HostRuntime) -> Result<(), Fail> {
-    let alloc = rt.alloc();
-    let rows: [(&[u8], &[u8], Ordering); 4] = [
-        (b"a", b"a", Ordering::Equal),
-        (b"a", b"ab", Ordering::Less),
-        (b"b", b"ab", Ordering::Greater),
-        (b"9", b"a", Ordering::Less),
-    ];
-    for (a, b, want) in rows {
-        let names = (
-            FileName::read(a).ok_or("no name")?,
-            FileName::read(b).ok_or("no name")?,
-        );
-        assert_eq!(rt; order(&names.0, &names.1), want);
-        assert_eq!(rt; names.0.partial_cmp(&names.1), Some(want));
-        assert_eq!(rt; same(&names.0, &names.1), want.is_eq());
-        let texts = (text(alloc, a)?, text(alloc, b)?);
-        assert_eq!(rt; order(&texts.0, &texts.1), want);
-        assert_eq!(rt; texts.0.partial_cmp(&texts.1), Some(want));
-        assert_eq!(rt; same(&texts.0, &texts.1), want.is_eq());
-    }
-    Ok(())
+fn roles_share_bits(rt: HostRuntime) {
+    assert!(rt; have_common_bit(&rt, 3, 2));
+    assert!(rt; have_common_bit(&rt, 262_144, 262_144));
+    assert!(rt; !have_common_bit(&rt, 1, 2));
+    assert!(rt; !have_common_bit(&rt, 0, 524_287));
 }
 
 #[test]
-fn lists_are_ordered_item_by_item(rt: HostRuntime) -> Result<(), Fail> {
-    let alloc = rt.alloc();
-    let (small, large) = (one(alloc, 1)?, one(alloc, 2)?);
+fn relations_are_bits_9_to_18(rt: HostRuntime) {
+    assert_eq!(rt; roles_of(&rt, 524_287).relation_part().bits(), 523_776);
+    assert_eq!(rt; roles_of(&rt, 511).relation_part().bits(), 0);
+    assert_eq!(rt; roles_of(&rt, 512).relation_part().bits(), 512);
+    assert_eq!(rt; roles_of(&rt, 262_145).relation_part().bits(), 262_144);
+}
+
+fn name_of(rt: &impl Abort, digits: &str) -> FileName {
+    FileName::read(digits.as_bytes()).expect(rt, "a name")
+}
+
+/// Asserts how two values compare, each way.
+fn expect_order<T: Ord>(rt: &impl Abort, a: &T, b: &T, want: Ordering) {
+    assert_eq!(rt; order(a, b), want);
+    assert_eq!(rt; partial_order(a, b), Some(want));
+    assert_eq!(rt; same(a, b), want.is_eq());
+}
+
+/// The same of two texts, and of two names with the same bytes.
+fn expect_byte_order(rt: &impl Abort, alloc: Global, a: &str, b: &str, want: Ordering) {
+    expect_order(rt, &name_of(rt, a), &name_of(rt, b), want);
+    let a = text(rt, alloc, a.as_bytes());
+    let b = text(rt, alloc, b.as_bytes());
+    expect_order(rt, &a, &b, want);
+}
+
+#[test]
+fn a_proper_prefix_is_the_smaller(rt: HostRuntime) {
+    expect_byte_order(&rt, rt.alloc(), "a", "a", Ordering::Equal);
+    expect_byte_order(&rt, rt.alloc(), "a", "ab", Ordering::Less);
+    expect_byte_order(&rt, rt.alloc(), "b", "ab", Ordering::Greater);
+    expect_byte_order(&rt, rt.alloc(), "9", "a", Ordering::Less);
+}
+
+/// A list of one byte: both ways in which memory can be wanting become Memory.
+fn one(alloc: Global, byte: u8) -> Result<Seq<u8>, Memory> {
+    let mut items = Vec::new(alloc);
+    items.push(byte)?;
+    items.extend_from_slice(&[])?;
+    Ok(Seq::of(items))
+}
+
+#[test]
+fn lists_are_ordered_item_by_item(rt: HostRuntime) {
+    let small = one(rt.alloc(), 1).expect(&rt, "memory");
+    let large = one(rt.alloc(), 2).expect(&rt, "memory");
     assert_eq!(rt; small.as_slice(), [1].as_slice());
-    assert_eq!(rt; order(&small, &large), Ordering::Less);
-    assert_eq!(rt;
-        small.partial_cmp(&Seq::of(Vec::new(alloc))),
-        Some(Ordering::Greater)
-    );
-    assert!(rt; same(&small, &one(alloc, 1)?) && !same(&small, &large));
+    expect_order(&rt, &small, &large, Ordering::Less);
+    expect_order(&rt, &small, &small, Ordering::Equal);
     assert_eq!(rt; large.into_vec().as_slice(), [2].as_slice());
-    Ok(())
+}
+
+/// The text of a letter.
+fn letter(rt: &impl Abort, alloc: Global, number: u8) -> Text {
+    text(rt, alloc, &[b'a' | number])
+}
+
+/// A list of one relation.
+fn relations(rt: &impl Abort, alloc: Global, number: u8) -> Seq<RelRow> {
+    let mut rows = Vec::new(alloc);
+    rows.push(relation(rt, alloc, 0, u32::from(number)))
+        .expect(rt, "memory");
+    Seq::of(rows)
 }
 
 /// An occurrence each of whose ten fields is made of a small number.
-fn occurrence(alloc: Global, fields: &[u8; 10]) -> Result<OccRow, Fail> {
-    let roles = Roles::new(u32::from(fields[8])).ok_or("no roles")?;
-    let others = Roles::new(u32::from(fields[9])).ok_or("no roles")?;
-    let mut relations = Vec::new(alloc);
-    relations.push(relation(alloc, b"r", others)?)?;
-    Ok(OccRow {
-        path: text(alloc, &[b'a' | fields[0]])?,
+fn occurrence(rt: &impl Abort, alloc: Global, fields: &[u8; 10]) -> OccRow {
+    OccRow {
+        path: letter(rt, alloc, fields[0]),
         line: u32::from(fields[1]),
         column: u32::from(fields[2]),
-        usr: text(alloc, &[b'a' | fields[3]])?,
-        name: text(alloc, &[b'a' | fields[4]])?,
-        kind: Kind::new(u32::from(fields[5])).ok_or("no kind")?,
-        lang: Lang::new(u32::from(fields[6])).ok_or("no language")?,
-        props: Props::new(u32::from(fields[7])).ok_or("no properties")?,
-        roles,
-        relations: Seq::of(relations),
-    })
+        usr: letter(rt, alloc, fields[3]),
+        name: letter(rt, alloc, fields[4]),
+        kind: Kind::new(u32::from(fields[5])).expect(rt, "a kind"),
+        lang: Lang::new(u32::from(fields[6])).expect(rt, "a language"),
+        props: Props::new(u32::from(fields[7])).expect(rt, "properties"),
+        roles: roles_of(rt, u32::from(fields[8])),
+        relations: relations(rt, alloc, fields[9]),
+    }
+}
+
+/// An edge each of whose six fields is made of one of the first six numbers.
+fn edge(rt: &impl Abort, alloc: Global, fields: &[u8; 10]) -> EdgeRow {
+    EdgeRow {
+        depth: u32::from(fields[0]),
+        from: letter(rt, alloc, fields[1]),
+        to: letter(rt, alloc, fields[2]),
+        path: letter(rt, alloc, fields[3]),
+        line: u32::from(fields[4]),
+        column: u32::from(fields[5]),
+    }
+}
+
+/// Two behind the place alone.
+fn large_behind(at: usize) -> [u8; 10] {
+    let mut fields = [0u8; 10];
+    for (place, field) in fields.iter_mut().enumerate() {
+        if place > at {
+            *field = 2;
+        }
+    }
+    fields
+}
+
+/// Two at the place alone.
+fn large_at(at: usize) -> [u8; 10] {
+    let mut fields = [0u8; 10];
+    for (place, field) in fields.iter_mut().enumerate() {
+        if place == at {
+            *field = 2;
+        }
+    }
+    fields
 }
 
 /// The first field that differs decides, against all later ones.
-#[test]
-fn rows_are_ordered_field_by_field(rt: HostRuntime) -> Result<(), Fail> {
-    for at in 0..10 {
-        let mut small = [0u8; 10];
-        let mut large = [0u8; 10];
-        large[at] = 2;
-        for later in at + 1..10 {
-            small[later] = 2;
-        }
-        let small = occurrence(rt.alloc(), &small)?;
-        let large = occurrence(rt.alloc(), &large)?;
-        assert_eq!(rt; order(&small, &large), Ordering::Less, "at field {at}");
-        assert!(rt;
-            same(&small, &small) && !same(&small, &large),
-            "at field {at}"
-        );
-    }
-    Ok(())
+fn expect_order_by_field(rt: &impl Abort, alloc: Global, at: usize) {
+    let small = occurrence(rt, alloc, &large_behind(at));
+    let large = occurrence(rt, alloc, &large_at(at));
+    expect_order(rt, &small, &large, Ordering::Less);
+    expect_order(rt, &small, &small, Ordering::Equal);
+}
+
+/// The same of edges.
+fn expect_edges_by_field(rt: &impl Abort, alloc: Global, at: usize) {
+    let small = edge(rt, alloc, &large_behind(at));
+    let large = edge(rt, alloc, &large_at(at));
+    expect_order(rt, &small, &large, Ordering::Less);
+    expect_order(rt, &small, &small, Ordering::Equal);
 }
 
 #[test]
-fn a_table_takes_no_clash_and_no_more_rows_than_fit(rt: HostRuntime) -> Result<(), Fail> {
-    let one = CodeTable::<2>::new().with(1, "a").ok_or("refused")?;
-    assert!(rt; one.with(1, "b").is_none());
-    let one = CodeTable::<2>::new().with(1, "a").ok_or("refused")?;
-    assert!(rt; one.with(2, "a").is_none());
-    let one = CodeTable::<2>::new().with(1, "a").ok_or("refused")?;
-    let two = one.with(2, "b").ok_or("refused")?;
+fn rows_are_ordered_field_by_field(rt: HostRuntime) {
+    for at in 0..10 {
+        expect_order_by_field(&rt, rt.alloc(), at);
+    }
+    for at in 0..6 {
+        expect_edges_by_field(&rt, rt.alloc(), at);
+    }
+}
+
+/// A relation to the symbol of a letter.
+fn relation(rt: &impl Abort, alloc: Global, number: u8, roles: u32) -> RelRow {
+    RelRow {
+        usr: letter(rt, alloc, number),
+        roles: roles_of(rt, roles),
+    }
+}
+
+#[test]
+fn relations_are_ordered_by_their_symbols_first(rt: HostRuntime) {
+    let small = relation(&rt, rt.alloc(), 0, 2);
+    let large = relation(&rt, rt.alloc(), 2, 1);
+    expect_order(&rt, &small, &large, Ordering::Less);
+}
+
+/// The table of one row.
+fn one_row(rt: &impl Abort) -> CodeTable<2> {
+    CodeTable::<2>::new().with(1, "a").expect(rt, "a table")
+}
+
+#[test]
+fn a_table_takes_no_clash_and_no_more_rows_than_fit(rt: HostRuntime) {
+    assert!(rt; one_row(&rt).with(1, "b").is_none());
+    assert!(rt; one_row(&rt).with(2, "a").is_none());
+    let two = one_row(&rt).with(2, "b").expect(&rt, "a table");
     assert_eq!(rt; two.name_of(2), Some("b"));
     assert_eq!(rt; two.name_of(3), None);
     assert_eq!(rt; two.code_of(b"a"), Some(1));
     assert_eq!(rt; two.code_of(b"c"), None);
     assert!(rt; two.with(3, "c").is_none());
-    assert!(rt; CodeTable::<0>::new().with(0, "").is_none());
     laws::look_ups_are_inverse();
+}
+
+/// Asserts that the table has these rows, and none behind the last.
+fn expect_rows<const N: usize>(
+    rt: &impl Abort,
+    table: &CodeTable<N>,
+    rows: &str,
+) -> Result<(), Fail> {
+    let mut last = 0;
+    for row in rows.lines() {
+        let (code, name) = row.split_once(" ").ok_or("no name")?;
+        let code = code.parse::<u32>()?;
+        assert_eq!(rt; table.name_of(code), Some(name));
+        assert_eq!(rt; table.code_of(name.as_bytes()), Some(code));
+        last = code;
+    }
+    assert_eq!(rt; table.name_of(last.wrapping_add(1)), None);
+    assert_eq!(rt; table.code_of(b"swift"), None);
     Ok(())
 }
 
-/// Rows of each table, and a code and a name that it lacks.
 #[test]
 fn the_tables_have_their_rows(rt: HostRuntime) -> Result<(), Fail> {
-    for (code, name) in [(0, "Unknown"), (26, "Using"), (1000, "CommentTag")] {
-        assert_eq!(rt; kinds().name_of(code), Some(name));
-        assert_eq!(rt; Kind::new(code).ok_or("no kind")?.name(), name);
-    }
-    assert_eq!(rt; kinds().name_of(27), None);
-    for (code, name) in [(0, "C"), (1, "Objective-C"), (2, "C++"), (100, "Swift")] {
-        assert_eq!(rt; langs().code_of(name.as_bytes()), Some(code));
-        assert_eq!(rt; Lang::new(code).ok_or("no language")?.name(), name);
-    }
-    assert_eq!(rt; langs().code_of(b"swift"), None);
-    assert_eq!(rt; roles().code_of(b"CalledBy"), Some(13));
-    assert_eq!(rt; roles().name_of(18), Some("SpecializationOf"));
-    assert_eq!(rt; roles().name_of(19), None);
-    assert_eq!(rt; props().name_of(8), Some("ProtocolInterface"));
-    assert_eq!(rt; queries().code_of(b"includers"), Some(12));
-    assert_eq!(rt; verbs().name_of(6), Some("collect"));
-    Ok(())
+    expect_rows(&rt, &kinds(), KINDS)?;
+    expect_rows(&rt, &langs(), LANGS)?;
+    expect_rows(&rt, &roles(), ROLES)?;
+    expect_rows(&rt, &props(), PROPS)?;
+    expect_rows(&rt, &queries(), QUERIES)?;
+    expect_rows(&rt, &verbs(), VERBS)
 }
 
 #[test]
-fn words_are_joined_in_rising_order(rt: HostRuntime) -> Result<(), Fail> {
-    let rows: [(u32, &[u8]); 5] = [
-        (0, b">"),
-        (2, b">Definition"),
-        (35, b">Declaration+Definition+Call"),
-        (262_144 + 256, b">Implicit+SpecializationOf"),
-        (524_288, b">"),
-    ];
-    for (bits, want) in rows {
-        let mut out = vec![in rt.alloc(); b'>'; 1]?;
-        push_words(&mut out, &roles(), bits)?;
-        assert_eq!(rt; out.as_slice(), want);
+fn kinds_and_languages_have_names(rt: HostRuntime) {
+    assert_eq!(rt; Kind::STRUCT.name(), "Struct");
+    assert_eq!(rt; Lang::SWIFT.name(), "Swift");
+    assert_eq!(rt; Kind::STRUCT.bits(), 6);
+    assert_eq!(rt; Lang::SWIFT.bits(), 100);
+}
+
+/// Asserts the words of some bits of the roles.
+fn expect_words(rt: &impl Abort, alloc: Global, bits: u32, want: &str) {
+    let mut out = Vec::new(alloc);
+    push_words(&mut out, &roles(), bits).expect(rt, "memory");
+    assert_eq!(rt; out.as_slice(), want.as_bytes());
+}
+
+#[test]
+fn words_are_joined_in_rising_order(rt: HostRuntime) {
+    expect_words(&rt, rt.alloc(), 0, "");
+    expect_words(&rt, rt.alloc(), 2, "Definition");
+    expect_words(&rt, rt.alloc(), 35, "Declaration+Definition+Call");
+    expect_words(&rt, rt.alloc(), 262_400, "Implicit+SpecializationOf");
+    expect_words(&rt, rt.alloc(), 524_288, "");
+}
+
+#[test]
+fn a_count_stands_still_at_its_end(rt: HostRuntime) {
+    assert_eq!(rt; count_up(0), 1);
+    assert_eq!(rt; count_up(u64::MAX), u64::MAX);
+}
+
+/// A query of the text, of a number: the variants in their order.
+fn query(number: u8, word: Text, roles: Roles) -> Query {
+    match number {
+        0 => Query::Def { usr: word },
+        1 => Query::Refs { usr: word },
+        2 => Query::Occ { usr: word, roles },
+        3 => Query::Rel { usr: word, roles },
+        4 => Query::Callers { usr: word },
+        5 => Query::Overrides { usr: word },
+        6 => Query::Name { name: word },
+        7 => Query::Pattern {
+            text: word,
+            start: true,
+            end: false,
+            fold: true,
+        },
+        8 => Query::Symbols { path: word },
+        9 => Query::Mains { path: word },
+        10 => Query::Units { path: word },
+        11 => Query::Includes { path: word },
+        12 => Query::Includers { path: word },
+        13 => Query::Incoming {
+            usr: word,
+            depth: 1,
+        },
+        14 => Query::Outgoing {
+            usr: word,
+            depth: 2,
+        },
+        15 => Query::Supertypes {
+            usr: word,
+            depth: 3,
+        },
+        16 => Query::Subtypes {
+            usr: word,
+            depth: 4,
+        },
+        _ => Query::Codegen { codegen: word },
     }
-    Ok(())
+}
+
+/// How each query of `a` and Declaration is printed.
+const PRINTED_QUERIES: &str = r#"Def { usr: "a" }
+Refs { usr: "a" }
+Occ { usr: "a", roles: Roles { bits: 1 } }
+Rel { usr: "a", roles: Roles { bits: 1 } }
+Callers { usr: "a" }
+Overrides { usr: "a" }
+Name { name: "a" }
+Pattern { text: "a", start: true, end: false, fold: true }
+Symbols { path: "a" }
+Mains { path: "a" }
+Units { path: "a" }
+Includes { path: "a" }
+Includers { path: "a" }
+Incoming { usr: "a", depth: 1 }
+Outgoing { usr: "a", depth: 2 }
+Supertypes { usr: "a", depth: 3 }
+Subtypes { usr: "a", depth: 4 }
+Codegen { codegen: "a" }"#;
+
+#[test]
+fn queries_have_their_fields(rt: HostRuntime) {
+    let mut number = 0u8;
+    for want in PRINTED_QUERIES.lines() {
+        let word = text(&rt, rt.alloc(), b"a");
+        let asked = query(number, word, roles_of(&rt, 1));
+        expect_printed(&rt, rt.alloc(), &asked, want);
+        number = number.wrapping_add(1);
+    }
+}
+
+/// Asserts how a value is printed.
+fn expect_printed<T: std::fmt::Debug>(rt: &impl Abort, alloc: Global, value: &T, want: &str) {
+    let printed = format!(in alloc; "{value:?}").expect(rt, "memory");
+    assert_eq!(rt; printed.as_str(), want);
+}
+
+#[test]
+fn values_print_what_they_hold(rt: HostRuntime) {
+    let usr = text(&rt, rt.alloc(), b"a");
+    expect_printed(&rt, rt.alloc(), &usr, r#""a""#);
+    let name = name_of(&rt, "ab");
+    expect_printed(&rt, rt.alloc(), &name, r#""ab""#);
+}
+
+/// Asserts the text of an error.
+fn expect_text<E: std::error::Error>(rt: &impl Abort, alloc: Global, error: &E, want: &str) {
+    let text = format!(in alloc; "{error}").expect(rt, "memory");
+    assert_eq!(rt; text.as_str(), want);
+}
+
+/// The texts of the other errors of texts stand in the table of texts.
+#[test]
+fn errors_have_texts(rt: HostRuntime) {
+    expect_text(&rt, rt.alloc(), &Memory, "memory");
+    expect_text(&rt, rt.alloc(), &Failed, "failed");
+    expect_text(&rt, rt.alloc(), &TextError::Memory, "memory");
+    expect_text(&rt, rt.alloc(), &TextError::TooLong, "more than 4096 bytes");
 }

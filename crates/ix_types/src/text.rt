@@ -9,10 +9,12 @@ ghost use Rattle.ix_types.specs.Text.{is_control, refusal_or_empty};
 
 use std::alloc::{AllocError, Global};
 use std::cmp::Ordering;
+use std::error::Error;
+use std::fmt;
 use std::marker::Model;
 
 /// Why bytes are no text. A place is a number of bytes.
-#[derive(Clone, Copy, Debug, PartialEq, Eq)]
+#[derive(Clone, Copy, Debug, Drop, PartialEq, Eq)]
 pub enum TextError {
     /// There is no byte.
     Empty,
@@ -25,6 +27,20 @@ pub enum TextError {
     /// Memory was wanting.
     Memory,
 }
+
+impl fmt::Display for TextError {
+    fn fmt<W: fmt::Write>(&self, f: &mut fmt::Formatter<W>) -> fmt::Result {
+        match self {
+            TextError::Empty => write!(f, "no bytes"),
+            TextError::TooLong => write!(f, "more than 4096 bytes"),
+            TextError::NotUtf8 { at } => write!(f, "not UTF-8 at byte {at}"),
+            TextError::Control { at } => write!(f, "a control character at byte {at}"),
+            TextError::Memory => write!(f, "memory"),
+        }
+    }
+}
+
+impl Error for TextError {}
 
 /// A text, seen as its bytes.
 #[derive(Drop)]
@@ -45,6 +61,9 @@ impl Model for Text {
 
 impl Text {
     ghost use Rattle.ix_types.specs.Text.{refusal, IsTextOrEmpty};
+
+    /// The most bytes that a text has.
+    pub const MAX_LEN: usize = 4096;
 
     /// The text that the bytes are, of at least one byte.
     pub fn read(alloc: Global, bytes: &[u8]) -> Result<Text, TextError>
@@ -86,7 +105,7 @@ impl Text {
 fn fault_of(bytes: &[u8]) -> Option<TextError>
     ensures { result ≡ refusal_or_empty bytes.now }
 {
-    if bytes.len() > 4096 {
+    if bytes.len() > Text::MAX_LEN {
         return Some(TextError::TooLong);
     }
     match str::from_utf8(bytes) {
@@ -105,6 +124,16 @@ fn control_at(bytes: &[u8]) -> Option<usize>
     ensures { result ≡ position is_control bytes.now }
 {
     bytes.iter().position(|byte| *byte < 32 || *byte == 127)
+}
+
+/// As a `str`.
+impl fmt::Debug for Text {
+    fn fmt<W: fmt::Write>(&self, f: &mut fmt::Formatter<W>) -> fmt::Result {
+        match str::from_utf8(self.bytes()) {
+            Ok(text) => write!(f, "{text:?}"),
+            Err(_) => Err(fmt::Error),
+        }
+    }
 }
 
 impl Clone for Text {
