@@ -5,20 +5,22 @@ use Rattle.std.specs.Cmp.Lexicographic.{same_text}
 use Rattle.std.specs.FinMap.{get, empty}
 use Rattle.std.proofs.lemmas.List.Elements.{All-append, All-cons, Contains-append_right}
 use Rattle.std.proofs.lemmas.List.Sums.{fold-append}
+use Rattle.std.proofs.lemmas.Grind.{flat_map-append}
 use Rattle.std.proofs.lemmas.Option.{slice_get-get_or, same_Some}
 use Rattle.ix_dir.specs.declared.area.Area.{Area}
 use Rattle.ix_dir.specs.Calls.{moves_removed}
 use Rattle.ix_dir.specs.Files.{File, Files, file}
-use Rattle.ix_dir.specs.Kept.{IsNumbered}
-use Rattle.ix_dir.specs.Leaves.{Adds}
+use Rattle.ix_dir.specs.IndexInvariant.{IsNumbered}
+use Rattle.ix_dir.specs.WhatAChangeLeaves.{Adds}
 use Rattle.ix_dir.specs.Moves.{Move, Renamed, Removed, Synced, Placed, area_after, area_step, same_area, same_name}
 use Rattle.ix_dir.specs.Stamps.{stamp_given, stamps_of, IsFresh, HasFreshStamps}
 use Rattle.ix_dir.proofs.StampsGiven.{standing_given}
-use Rattle.ix_dir.proofs.Steps.{file_step, get-step}
+use Rattle.ix_dir.proofs.OneElementMore.{snoc_cases}
+use Rattle.ix_dir.proofs.FileAfterAMove.{file_step, get-step}
 
 -- ---- elements by index
 
-within : {A : Type 0} (xs : List A) (i : ℕ) (x : A) → slice_get xs i ≡ Some x → i < length xs
+pub within : {A : Type 0} (xs : List A) (i : ℕ) (x : A) → slice_get xs i ≡ Some x → i < length xs
 within [] i x at = cc
 within (y ∷ xs) zero x at = omega arith
 within (y ∷ xs) (suc i) x at = let rest = within xs i x at in omega (arith, rest)
@@ -40,21 +42,10 @@ behind_at (z ∷ xs) ys i (suc k) x e at =
 behind : {A : Type 0} (xs ys : List A) (i : ℕ) (x : A) → slice_get ys i ≡ Some x → slice_get (xs ++ ys) (i + length xs) ≡ Some x
 behind xs ys i x at = behind_at xs ys i (i + length xs) x refl at
 
-index_of : {A : Type 0} (xs : List A) (x : A) → Contains xs x → (i : ℕ) × (slice_get xs i ≡ Some x)
+pub index_of : {A : Type 0} (xs : List A) (x : A) → Contains xs x → (i : ℕ) × (slice_get xs i ≡ Some x)
 index_of xs x c = (c.0, slice_get-get_or xs c.0 x c.1 ∙ ap Some c.2)
 
--- an element of a list with one more
-one_more : (xs : List ℕ) (x i y : ℕ) → slice_get (xs ++ x ∷ []) i ≡ Some y → (slice_get xs i ≡ Some y) ⊎ ((i ≡ length xs) × (x ≡ y))
-one_more [] x zero y h = inr (refl, same_Some x y h)
-one_more [] x (suc i) y h = cc
-one_more (z ∷ xs) x zero y h = inl h
-one_more (z ∷ xs) x (suc i) y h =
-    elim (one_more xs x i y h) [
-      | inl old ↦ inl old
-      | inr new ↦ inr (ap suc new.0, new.1)
-    ]
-
--- each number stands at one place
+-- each number stands at one index
 abbrev Apart : List ℕ → Type 0
 Apart xs = (j k x : ℕ) → slice_get xs j ≡ Some x → slice_get xs k ≡ Some x → j ≡ k
 
@@ -65,14 +56,14 @@ not_at xs x i all at =
 
 apart_more : (xs : List ℕ) (x : ℕ) → All (λ y. y ≢ x) xs → Apart xs → Apart (xs ++ x ∷ [])
 apart_more xs x fresh apart j k y a b =
-    elim (one_more xs x j y a) [
+    elim (snoc_cases xs x j y a) [
       | inl j_old ↦
-          elim (one_more xs x k y b) [
+          elim (snoc_cases xs x k y b) [
             | inl k_old ↦ apart j k y j_old k_old
             | inr k_new ↦ absurd (not_at xs x j fresh (j_old ∙ ap Some (sym k_new.1)))
           ]
       | inr j_new ↦
-          elim (one_more xs x k y b) [
+          elim (snoc_cases xs x k y b) [
             | inl k_old ↦ absurd (not_at xs x k fresh (k_old ∙ ap Some (sym j_new.1)))
             | inr k_new ↦ j_new.0 ∙ sym k_new.0
           ]
@@ -108,10 +99,6 @@ fresh_removed moves area name apart =
       | true ↦ λ n. subst Apart (sym (same_stamps moves (Removed area name) n refl)) (apart n)
       | false ↦ apart
     ]
-
-stamps_both : (moves more : List Move) (name : List ℕ) → stamps_of (moves ++ more) name ≡ stamps_of moves name ++ stamps_of more name
-stamps_both [] more name = refl
-stamps_both (m ∷ moves) more name = ap (λ rest. stamp_given name m ++ rest) (stamps_both moves more name) ∙ sym (append_assoc (stamp_given name m) (stamps_of moves name) (stamps_of more name))
 
 -- ---- the same stamp, the same file
 
@@ -152,7 +139,7 @@ same_file before now area name old new adds apart was is stamps =
     elim (came area name (area_after before area) adds.more) [
       | inl same ↦ same_Some old new (sym was ∙ sym same ∙ sym later ∙ is)
       | inr came_later ↦
-          let all : stamps_of now name ≡ stamps_of before name ++ stamps_of adds.more name = ap (λ ms. stamps_of ms name) adds.added ∙ stamps_both before adds.more name in
+          let all : stamps_of now name ≡ stamps_of before name ++ stamps_of adds.more name = ap (λ ms. stamps_of ms name) adds.added ∙ flat_map-append (stamp_given name) before adds.more in
           let first = index_of (stamps_of before name) old.stamp (standing_given before area name old was) in
           let second = index_of (stamps_of adds.more name) new.stamp (came_later new (sym later ∙ is)) in
           let at_first = in_front (stamps_of before name) (stamps_of adds.more name) first.0 old.stamp first.1 in

@@ -5,10 +5,11 @@ use Rattle.std.specs.FinMap.{get, empty, get-empty}
 use Rattle.std.proofs.lemmas.List.Elements.{Contains-push, Contains-append_left}
 use Rattle.std.proofs.lemmas.Option.{same_Some}
 use Rattle.ix_dir.specs.declared.area.Area.{Area}
-use Rattle.ix_dir.specs.Files.{File, Files, file, name_cmp}
+use Rattle.ix_dir.specs.Files.{File, Files, file}
+use Rattle.ix_types.specs.Row.{text_cmp}
 use Rattle.ix_dir.specs.Moves.{Move, Renamed, Removed, Synced, Placed, area_after, area_step, same_area, same_name}
 use Rattle.ix_dir.specs.Stamps.{stamp_given, stamps_of}
-use Rattle.ix_dir.proofs.Steps.{file_step, get-step}
+use Rattle.ix_dir.proofs.FileAfterAMove.{file_step, get-step}
 
 -- the stamp of the file, if there is one, is among these
 abbrev IsGiven : List ℕ → Option File → Type 0
@@ -40,4 +41,4 @@ module _ (area : Area) (q : List ℕ) where
 
 pub standing_given : (moves : List Move) (area : Area) (name : List ℕ) (f : File) → get (area_after moves area) name ≡ Some f → Contains (stamps_of moves name) f.stamp
 standing_given moves area name f is =
-    given_all area name [] empty moves (λ g e. let none : None ≡ Some g = sym (get-empty {X = File} name_cmp name) ∙ e in cc) f is
+    given_all area name [] empty moves (λ g e. let none : None ≡ Some g = sym (get-empty {X = File} text_cmp name) ∙ e in cc) f is

@@ -1,8 +1,8 @@
 -- What a call does to what contracts see of a directory.
-use Rattle.std.specs.Prelude.{◌≡◌, ◌≢◌, ℕ, ◌≤◌, List, [], ◌∷◌, ◌++◌, Bool, true, false, if◌then◌else◌, ◌&&◌, Option, Result, Ok, Err, is_some, IfSome, MatchBool}
+use Rattle.std.specs.Prelude.{◌≡◌, ℕ, List, [], ◌∷◌, ◌++◌, Bool, true, false, if◌then◌else◌, ◌&&◌, Option, None, Result, Ok, Err, is_ok, is_some, IfSome}
 use Rattle.std.specs.FinMap.{get}
 use Rattle.std.specs.Option.{option_map}
-use Rattle.ix_types.specs.Count.{Rose}
+use Rattle.ix_dir.specs.State.{DirState, with_slot, spent, counted_where}
 use Rattle.ix_dir.specs.declared.area.Area.{Area}
 use Rattle.ix_dir.specs.declared.area.Area.TheVariants.{Records}
 use Rattle.ix_dir.specs.declared.dir.DirError.{DirError}
@@ -28,10 +28,6 @@ moves_removed area name moves = if is_some (get (area_after moves area) name) th
 abbrev pub removed : Option (List Move) → Area → List ℕ → Option (List Move)
 removed moves area name = option_map (moves_removed area name) moves
 
--- the count rises where the call is one of those that it counts, and else stays
-abbrev pub CountsWhere : Bool → ℕ → ℕ → Type 0
-CountsWhere counted before now = MatchBool counted ((before ≤ now) × Rose before now) (now ≡ before)
-
 -- the outside failed
 abbrev pub is_failed : {X : Type 0} → Result X DirError → Bool
 is_failed (Ok x) = false
@@ -43,11 +39,18 @@ abbrev pub is_find : {X : Type 0} → Area → Result (Option X) DirError → Bo
 is_find area (Ok found) = same_area area Records && is_some found
 is_find area (Err e) = false
 
--- which slots are staged, and the bytes of those, are as before
-abbrev pub SameSlots : (ℕ → Bool) → (ℕ → List ℕ) → (ℕ → Bool) → (ℕ → List ℕ) → Type 0
-SameSlots staged bytes staged_now bytes_now = (slot : ℕ) → (staged_now slot ≡ staged slot) × (bytes_now slot ≡ bytes slot)
+-- after a list: its counts alone changed
+abbrev pub after_list : {X : Type 0} → Result X DirError → DirState → DirState
+after_list result d = record d { faults = counted_where (is_failed result) d.faults; listings = counted_where (is_ok result) d.listings }
 
--- the slots but this one are as before
-abbrev pub OtherSlotsStay : ℕ → (ℕ → Bool) → (ℕ → List ℕ) → (ℕ → Bool) → (ℕ → List ℕ) → Type 0
-OtherSlotsStay slot staged bytes staged_now bytes_now =
-    (other : ℕ) → other ≢ slot → (staged_now other ≡ staged other) × (bytes_now other ≡ bytes other)
+-- after a read: its counts alone changed
+abbrev pub after_read : {X : Type 0} → Area → Result (Option X) DirError → DirState → DirState
+after_read area result d = record d { faults = counted_where (is_failed result) d.faults; finds = counted_where (is_find area result) d.finds }
+
+-- after a stage, with what the slot has now
+abbrev pub after_stage : {X : Type 0} → ℕ → Option (List ℕ) → Result X DirError → DirState → DirState
+after_stage slot bytes result d = record d { slots = with_slot d.slots slot bytes; faults = counted_where (is_failed result) d.faults }
+
+-- after a rename, with the moves that there are now
+abbrev pub after_rename : ℕ → Option (List Move) → DirState → DirState
+after_rename slot moves d = record (spent d) { moves = moves; slots = with_slot d.slots slot None }

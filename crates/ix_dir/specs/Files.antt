@@ -1,15 +1,9 @@
 -- The files of an area: a finite map from names to files.
 use Rattle.std.specs.Prelude.{ℕ, List, map, Option, IsTrue}
-use Rattle.std.specs.declared.cmp.Ordering.{Ordering}
-use Rattle.std.specs.Ordering.{nat_cmp}
 use Rattle.std.specs.Option.{option_map}
-use Rattle.std.specs.Cmp.Lexicographic.{slice_cmp}
 use Rattle.std.specs.FinMap.{FinMap, entries, get, is_sorted, from_sorted}
+use Rattle.ix_types.specs.Row.{text_cmp}
 use Rattle.ix_dir.specs.declared.dir.Listed.{Listed}
-
--- names stand in the order of their bytes
-abbrev pub name_cmp : List ℕ → List ℕ → Ordering
-name_cmp = slice_cmp nat_cmp
 
 -- what stands under a name
 pub record File : Type 0 where
@@ -21,15 +15,19 @@ file bytes stamp = record { bytes = bytes; stamp = stamp }
 
 -- the files of an area by name
 abbrev pub Files : Type 0
-Files = FinMap name_cmp File
+Files = FinMap text_cmp File
 
 -- bytes by name, without stamps
 abbrev pub Contents : Type 0
-Contents = FinMap name_cmp (List ℕ)
+Contents = FinMap text_cmp (List ℕ)
 
 -- the bytes under a name, None where there is no file
 abbrev pub bytes_at : Files → List ℕ → Option (List ℕ)
 bytes_at files name = option_map (λ f. f.bytes) (get files name)
+
+-- the stamp of a name's file, None where there is no file
+abbrev pub stamp_at : Files → List ℕ → Option ℕ
+stamp_at files name = option_map (λ f. f.stamp) (get files name)
 
 -- the files without their stamps
 abbrev pub contents_of : Files → Contents
@@ -42,6 +40,14 @@ listed_entry entry = record { name = entry.0; stamp = entry.1.stamp }
 abbrev pub listed_of : Files → List Listed
 listed_of files = map listed_entry (entries files)
 
+-- a name and its stamp, listed
+abbrev pub listed_at : List ℕ × ℕ → Listed
+listed_at row = record { name = row.0; stamp = row.1 }
+
+-- listed files as pairs of a name and a stamp
+abbrev pub rows_of : List Listed → List (List ℕ × ℕ)
+rows_of listed = map (λ l. (l.name, l.stamp)) listed
+
 -- the names strictly rise
 abbrev pub IsRising : List Listed → Type 0
-IsRising listed = IsTrue (is_sorted name_cmp (map (λ l. (l.name, l.stamp)) listed))
+IsRising listed = IsTrue (is_sorted text_cmp (rows_of listed))

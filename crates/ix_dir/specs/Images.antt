@@ -9,9 +9,9 @@ use Rattle.ix_dir.specs.Moves.{Move, Renamed, Removed, Synced, Placed, same_area
 abbrev pub Value : Type 0
 Value = Option (List ℕ)
 
--- the last value alone
-abbrev pub last_alone : List Value → List Value
-last_alone values = drop (length values - 1) values
+-- the last element alone
+abbrev pub last_alone : {A : Type 0} → List A → List A
+last_alone xs = drop (length xs - 1) xs
 
 -- the values of a name after one move more
 abbrev pub values_step : Area → List ℕ → List Value → Move → List Value
@@ -25,10 +25,14 @@ values_step area name values (Placed a n bytes stamp) = if same_area area a && s
 abbrev pub values_of : List Move → Area → List ℕ → List Value
 values_of moves area name = fold (values_step area name) (None ∷ []) moves
 
+-- What a crash after these moves may leave in an area: each name, independently of the others, has one of its values.
+abbrev pub IsImageIn : Area → List Move → Contents → Type 0
+IsImageIn area moves contents = (name : List ℕ) → Contains (values_of moves area name) (get contents name)
+
 -- what a crash leaves: bytes by name, for each area
 abbrev pub Image : Type 0
 Image = Area → Contents
 
--- A crash after these moves may leave the image: each name, independently of the others, has one of its values.
+-- A crash after these moves may leave the image, in both areas.
 abbrev pub IsImage : List Move → Image → Type 0
-IsImage moves image = (area : Area) (name : List ℕ) → Contains (values_of moves area name) (get (image area) name)
+IsImage moves image = (area : Area) → IsImageIn area moves (image area)

@@ -1,9 +1,11 @@
 -- A directory in memory, as contracts see it.
-use Rattle.std.specs.Prelude.{◌≡◌, ℕ, ◌+◌, ◌-◌, ◌^◌, ◌==◌, min, if◌then◌else◌, Bool, List, [], ◌∷◌, ◌++◌, length, Option, is_some, unwrap_or, nat_eq}
+use Rattle.std.specs.Prelude.{ℕ, ◌-◌, ◌==◌, if◌then◌else◌, Bool, List, [], ◌∷◌, ◌++◌, length, Option, Some, nat_eq}
 use Rattle.std.specs.List.{list_any}
 use Rattle.std.specs.Map.{lookup}
 use Rattle.ix_dir.specs.declared.area.Area.{Area}
+use Rattle.ix_types.specs.Count.{counted}
 use Rattle.ix_dir.specs.Moves.{Move, Placed}
+use Rattle.ix_dir.specs.State.{DirState}
 
 pub record InMemory : Type 0 where
   -- all moves so far
@@ -20,10 +22,6 @@ pub record InMemory : Type 0 where
   pub listings : ℕ
   pub finds : ℕ
 
--- a count with one more, which stands still at the greatest u64
-abbrev pub counted : ℕ → ℕ
-counted n = min (n + 1) (2 ^ 64 - 1)
-
 -- whether the next call fails: calls are numbered from 1
 abbrev pub next_fails : InMemory → Bool
 next_fails d = list_any (λ number. number == counted d.calls) d.fails
@@ -32,24 +30,21 @@ next_fails d = list_any (λ number. number == counted d.calls) d.fails
 abbrev pub begun : InMemory → InMemory
 begun d = record d { calls = counted d.calls; faults = if next_fails d then counted d.faults else d.faults }
 
+-- after one of the calls for which room was made, with these moves where it didn't fail
+abbrev pub moved : List Move → InMemory → InMemory
+moved moves d = record (begun d) { moves = if next_fails d then d.moves else moves; spare = d.spare - 1 }
+
 -- the bytes of a slot, None where it isn't staged
 abbrev pub slot_at : InMemory → ℕ → Option (List ℕ)
 slot_at d slot = lookup (nat_eq slot) d.slots
 
-abbrev pub is_staged : InMemory → ℕ → Bool
-is_staged d slot = is_some (slot_at d slot)
-
-abbrev pub staged_bytes : InMemory → ℕ → List ℕ
-staged_bytes d slot = unwrap_or (slot_at d slot) []
+-- what contracts see of it as of any directory
+abbrev pub state_of : InMemory → DirState
+state_of d = record { moves = Some d.moves; slots = slot_at d; spare = d.spare; faults = d.faults; listings = d.listings; finds = d.finds }
 
 -- an empty directory of which the calls of these numbers fail
 abbrev pub new_one : List ℕ → InMemory
 new_one fails = record { moves = []; slots = []; spare = 0; fails = fails; calls = 0; faults = 0; listings = 0; finds = 0 }
-
--- one call more was counted, and the same numbers fail
-pub record CallsCounted (old new : InMemory) : Type 0 where
-  pub calls : new.calls ≡ counted old.calls
-  pub fails : new.fails ≡ old.fails
 
 -- with a file that was placed, which has the number of the moves before it as its stamp
 abbrev pub placed : InMemory → Area → List ℕ → List ℕ → InMemory

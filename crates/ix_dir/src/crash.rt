@@ -5,14 +5,14 @@ ghost use Rattle.ix_dir.specs.Crash.{names_since, number_for, value_for, LeavesO
 ghost use Rattle.ix_dir.specs.Files.{bytes_at};
 ghost use Rattle.ix_dir.specs.Images.{values_of};
 ghost use Rattle.ix_dir.specs.Moves.{same_area, area_after};
-ghost use Rattle.ix_dir.specs.Pending.{IsPending};
-ghost use Rattle.ix_dir.specs.PlacedValues.{value_at, left_with};
+ghost use Rattle.ix_dir.specs.NotedInOneWalk.{IsPending};
+ghost use Rattle.ix_dir.specs.ValuesByNumber.{value_at, left_with};
 
 use crate::area::Area;
 use crate::memory::MemoryDir;
 use crate::moves::{Move, bytes_put};
-use crate::pending::Pending;
 use crate::pick::Pick;
+use crate::values_by_name::ValuesByName;
 use ix_types::{FileName, Memory};
 use std::alloc::Global;
 
@@ -30,7 +30,7 @@ pub fn leave(
     ensures settled { OnOk result (IsSettled left.old.moves → IsSettled left.new.moves) }
     ensures state { OnOk result (left.new ≡ record left.old { moves = left.new.moves }) }
 {
-    let pending = Pending::of(alloc, moves, area)?;
+    let pending = ValuesByName::of(alloc, moves, area)?;
     let names = pending.names(alloc, moves)?;
     for (i, name) in names.iter().enumerate() {
         let value = value_left(moves, &pending, pick, i, name);
@@ -59,7 +59,7 @@ fn leave_name(
 /// What a crash leaves of the name of number i.
 fn value_left<'a>(
     moves: &'a [Move],
-    pending: &Pending,
+    pending: &ValuesByName,
     pick: Pick,
     i: usize,
     name: &FileName,
@@ -71,14 +71,14 @@ fn value_left<'a>(
     chosen(moves, values, pick, i)
 }
 
-/// The bytes that the pick chooses for the name of number i, of values by their places.
+/// The bytes that the pick chooses for the name of number i, of values by their numbers.
 fn chosen<'a>(moves: &'a [Move], values: &[Option<u64>], pick: Pick, i: usize) -> Option<&'a [u8]>
     requires some { 0 < length values.now }
     requires small { i < 2 ^ 63 }
     ensures { option_copied result ≡ value_for pick i (map (value_at moves.now) values.now) }
 {
     match values[number_of(pick, i, values.len())] {
-        Some(place) => bytes_put(moves, place),
+        Some(number) => bytes_put(moves, number),
         None => None,
     }
 }

@@ -1,10 +1,11 @@
 //! A directory, as the store sees it.
-ghost use Rattle.std.specs.Prelude.{◌≡◌, ◌+◌, ◌<◌, ◌≤◌, ℕ, List, Bool, false, Option, is_ok, is_err, IsErrOf, IsSome, IsTrue, IfOk, IfSome, OnOk, OnErr};
+ghost use Rattle.std.specs.Prelude.{◌≡◌, ◌<◌, ◌≤◌, Some, is_ok, IsSome, IsTrue, IfOk, IfSome, OnOk, OnErr};
 ghost use Rattle.ix_dir.specs.declared.dir.DirError.TheVariants.{Memory as NoMemory};
-ghost use Rattle.ix_dir.specs.Calls.{with_move, Renames, removed, CountsWhere, is_failed, is_find, SameSlots, OtherSlotsStay};
+ghost use Rattle.ix_dir.specs.Calls.{with_move, Renames, removed, after_list, after_read, after_stage, after_rename};
 ghost use Rattle.ix_dir.specs.Files.{bytes_at, listed_of, IsRising};
-ghost use Rattle.ix_dir.specs.Moves.{Move, Synced, area_after};
+ghost use Rattle.ix_dir.specs.Moves.{Synced, area_after};
 ghost use Rattle.ix_dir.specs.Stamps.{HasFreshStamps};
+ghost use Rattle.ix_dir.specs.State.{DirState, is_staged, staged_bytes, spent, failed};
 
 use crate::area::Area;
 use ix_types::{Failed, FileName, Memory, Seq};
@@ -12,7 +13,7 @@ use std::alloc::{AllocError, AllocFailed, Global};
 use thiserror::Error;
 
 /// A name of an area, with its file's stamp.
-#[derive(Clone, Copy, PartialEq, Eq, PartialOrd, Ord)]
+#[derive(Clone, Copy, Debug, PartialEq, Eq, PartialOrd, Ord)]
 pub struct Listed {
     pub name: FileName,
     pub stamp: u64,
@@ -52,49 +53,22 @@ impl<T: Drop> From<AllocFailed<T>> for DirError {
 /// them up to its moment. Nothing is said of what a crash leaves in a slot.
 /// A call that fails, or that lacks memory, leaves the moves as they were.
 pub trait Dir {
-    /// The moves so far, where the directory tells them.
-    ghost moves: { Self → Option (List Move) };
-
-    /// How often the outside has failed, a count that never falls.
-    ghost faults: { Self → ℕ };
-
-    /// How often a list was answered, a count that never falls.
-    ghost listings: { Self → ℕ };
-
-    /// How often a read found a record file, a count that never falls.
-    ghost finds: { Self → ℕ };
-
-    /// How many renames, removals and syncs may follow.
-    ghost spare: { Self → ℕ };
-
-    /// Whether a slot is staged: whole, with the bytes that it was given.
-    ghost staged: { Self → ℕ → Bool };
-
-    /// The bytes of a staged slot, where the directory tells its moves.
-    ghost slot_bytes: { Self → ℕ → List ℕ };
+    /// What contracts see of it.
+    ghost state: { Self → DirState };
 
     /// Makes room for so many renames, removals and syncs, which take no memory then.
     fn reserve(&mut self, alloc: Global, calls: u32) -> Result<(), Memory>
-        ensures room { OnOk result (calls ≤ spare self.new) }
-        ensures kept { spare self.old ≤ spare self.new }
-        ensures wanting { OnErr result (spare self.new ≡ spare self.old) }
-        ensures moves { moves self.new ≡ moves self.old }
-        ensures slots { SameSlots (staged self.old) (slot_bytes self.old) (staged self.new) (slot_bytes self.new) }
-        ensures faults { faults self.new ≡ faults self.old }
-        ensures listings { listings self.new ≡ listings self.old }
-        ensures finds { finds self.new ≡ finds self.old };
+        ensures room { OnOk result (calls ≤ (state self.new).spare) }
+        ensures more { (state self.old).spare ≤ (state self.new).spare }
+        ensures others { state self.new ≡ record (state self.old) { spare = (state self.new).spare } }
+        ensures wanting { OnErr result (state self.new ≡ state self.old) };
 
     /// The names of an area in rising order, with their stamps. No two files that a name had have one stamp.
     fn list(&mut self, alloc: Global, area: Area) -> Result<Seq<Listed>, DirError>
-        ensures listed { IfOk result (λ listed. IfSome (moves self.old) (λ moves. listed ≡ listed_of (area_after moves area))) }
+        ensures listed { IfOk result (λ listed. IfSome (state self.old).moves (λ moves. listed ≡ listed_of (area_after moves area))) }
         ensures rising { IfOk result IsRising }
-        ensures fresh { OnOk result (IfSome (moves self.old) HasFreshStamps) }
-        ensures cause { CountsWhere (is_failed result) (faults self.old) (faults self.new) }
-        ensures listings { CountsWhere (is_ok result) (listings self.old) (listings self.new) }
-        ensures finds { finds self.new ≡ finds self.old }
-        ensures moves { moves self.new ≡ moves self.old }
-        ensures slots { SameSlots (staged self.old) (slot_bytes self.old) (staged self.new) (slot_bytes self.new) }
-        ensures spare { spare self.new ≡ spare self.old };
+        ensures fresh { OnOk result (IfSome (state self.old).moves HasFreshStamps) }
+        ensures state { state self.new ≡ after_list result (state self.old) };
 
     /// The bytes under a name, None where there is no such file.
     fn read(
@@ -103,59 +77,33 @@ pub trait Dir {
         area: Area,
         name: FileName,
     ) -> Result<Option<Seq<u8>>, DirError>
-        ensures bytes { IfOk result (λ found. IfSome (moves self.old) (λ moves. found ≡ bytes_at (area_after moves area) name)) }
-        ensures cause { CountsWhere (is_failed result) (faults self.old) (faults self.new) }
-        ensures listings { listings self.new ≡ listings self.old }
-        ensures finds { CountsWhere (is_find area result) (finds self.old) (finds self.new) }
-        ensures moves { moves self.new ≡ moves self.old }
-        ensures slots { SameSlots (staged self.old) (slot_bytes self.old) (staged self.new) (slot_bytes self.new) }
-        ensures spare { spare self.new ≡ spare self.old };
+        ensures bytes { IfOk result (λ found. IfSome (state self.old).moves (λ moves. found ≡ bytes_at (area_after moves area) name)) }
+        ensures state { state self.new ≡ after_read area result (state self.old) };
 
     /// Makes a slot whole with these bytes. After an error the slot has any bytes, and isn't staged.
     fn stage(&mut self, alloc: Global, slot: u32, bytes: &[u8]) -> Result<(), DirError>
-        ensures staged { staged self.new slot ≡ is_ok result }
-        ensures bytes { OnOk result (IsSome (moves self.old) → slot_bytes self.new slot ≡ bytes.now) }
-        ensures others { OtherSlotsStay slot (staged self.old) (slot_bytes self.old) (staged self.new) (slot_bytes self.new) }
-        ensures cause { CountsWhere (is_failed result) (faults self.old) (faults self.new) }
-        ensures listings { listings self.new ≡ listings self.old }
-        ensures finds { finds self.new ≡ finds self.old }
-        ensures moves { moves self.new ≡ moves self.old }
-        ensures spare { spare self.new ≡ spare self.old };
+        ensures staged { is_staged (state self.new) slot ≡ is_ok result }
+        ensures bytes { OnOk result (IsSome (state self.old).moves → (state self.new).slots slot ≡ Some bytes.now) }
+        ensures state { state self.new ≡ after_stage slot ((state self.new).slots slot) result (state self.old) };
 
     /// Puts a staged slot's bytes at a name in one visible step, in place of what was there, and empties the slot.
     /// The file gets a stamp that no earlier file of the name had.
     fn rename(&mut self, slot: u32, area: Area, name: FileName) -> Result<(), Failed>
-        requires staged { IsTrue (staged self.old slot) }
-        requires room { 0 < spare self.old }
-        ensures renamed { OnOk result (Renames (moves self.old) (moves self.new) area name (slot_bytes self.old slot)) }
-        ensures emptied { OnOk result (staged self.new slot ≡ false) }
-        ensures others { OtherSlotsStay slot (staged self.old) (slot_bytes self.old) (staged self.new) (slot_bytes self.new) }
-        ensures failed { OnErr result (moves self.new ≡ moves self.old) }
-        ensures kept { OnErr result (SameSlots (staged self.old) (slot_bytes self.old) (staged self.new) (slot_bytes self.new)) }
-        ensures cause { CountsWhere (is_err result) (faults self.old) (faults self.new) }
-        ensures listings { listings self.new ≡ listings self.old }
-        ensures finds { finds self.new ≡ finds self.old }
-        ensures spare { spare self.new + 1 ≡ spare self.old };
+        requires staged { IsTrue (is_staged (state self.old) slot) }
+        requires room { 0 < (state self.old).spare }
+        ensures renamed { OnOk result (Renames (state self.old).moves (state self.new).moves area name (staged_bytes (state self.old) slot)) }
+        ensures state { OnOk result (state self.new ≡ after_rename slot (state self.new).moves (state self.old)) }
+        ensures failed { OnErr result (state self.new ≡ failed (spent (state self.old))) };
 
     /// Takes a name away in one visible step; where it isn't there, nothing changes.
     fn remove(&mut self, area: Area, name: FileName) -> Result<(), Failed>
-        requires { 0 < spare self.old }
-        ensures removed { OnOk result (moves self.new ≡ removed (moves self.old) area name) }
-        ensures failed { OnErr result (moves self.new ≡ moves self.old) }
-        ensures slots { SameSlots (staged self.old) (slot_bytes self.old) (staged self.new) (slot_bytes self.new) }
-        ensures cause { CountsWhere (is_err result) (faults self.old) (faults self.new) }
-        ensures listings { listings self.new ≡ listings self.old }
-        ensures finds { finds self.new ≡ finds self.old }
-        ensures spare { spare self.new + 1 ≡ spare self.old };
+        requires { 0 < (state self.old).spare }
+        ensures removed { OnOk result (state self.new ≡ record (spent (state self.old)) { moves = removed (state self.old).moves area name }) }
+        ensures failed { OnErr result (state self.new ≡ failed (spent (state self.old))) };
 
     /// After it, a crash leaves in the area what stands there.
     fn sync(&mut self, area: Area) -> Result<(), Failed>
-        requires { 0 < spare self.old }
-        ensures synced { OnOk result (moves self.new ≡ with_move (moves self.old) (Synced area)) }
-        ensures failed { OnErr result (moves self.new ≡ moves self.old) }
-        ensures slots { SameSlots (staged self.old) (slot_bytes self.old) (staged self.new) (slot_bytes self.new) }
-        ensures cause { CountsWhere (is_err result) (faults self.old) (faults self.new) }
-        ensures listings { listings self.new ≡ listings self.old }
-        ensures finds { finds self.new ≡ finds self.old }
-        ensures spare { spare self.new + 1 ≡ spare self.old };
+        requires { 0 < (state self.old).spare }
+        ensures synced { OnOk result (state self.new ≡ record (spent (state self.old)) { moves = with_move (state self.old).moves (Synced area) }) }
+        ensures failed { OnErr result (state self.new ≡ failed (spent (state self.old))) };
 }

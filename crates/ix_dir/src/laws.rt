@@ -1,20 +1,31 @@
 //! What follows of moves and of what a crash may leave. A caller's proof gets a law by calling its function, which does nothing.
-ghost use Rattle.std.specs.Prelude.{◌≡◌, ◌↔◌, ℕ, ◌≤◌, List, [], ◌∷◌, ◌++◌, length, take, drop, true, false, ◌&&◌, Option, None, Some, is_some, Contains};
+ghost use Rattle.std.specs.Prelude.{◌≡◌, ◌↔◌, ◌⊎◌, ℕ, ◌≤◌, List, [], ◌∷◌, ◌++◌, length, map, take, drop, slice_get, if◌then◌else◌, Bool, true, false, IsTrue, ◌&&◌, Option, None, Some, is_some, Result, Ok, Err, Contains};
 ghost use Rattle.std.specs.FinMap.{get};
 ghost use Rattle.std.specs.List.{list_any};
 ghost use Rattle.ix_dir.specs.declared.area.Area.{Area};
-ghost use Rattle.ix_dir.specs.Calls.{with_move, removed, moves_removed};
+ghost use Rattle.ix_dir.specs.declared.area.Area.TheVariants.{Units, Records};
+ghost use Rattle.ix_dir.specs.declared.dir.DirError.{DirError};
+ghost use Rattle.ix_dir.specs.Calls.{with_move, Renames, removed, moves_removed, is_find};
 ghost use Rattle.ix_dir.specs.Crash.{IsSettledIn, standing};
-ghost use Rattle.ix_dir.specs.Files.{File, Files, bytes_at, contents_of};
-ghost use Rattle.ix_dir.specs.Images.{Value, values_of, values_step, last_alone, Image, IsImage};
-ghost use Rattle.ix_dir.specs.Leaves.{LeavesAt, Adds, AddsTo};
-ghost use Rattle.ix_dir.specs.Moments.{StoodSince, places};
+ghost use Rattle.ix_dir.specs.Files.{File, Files, Contents, bytes_at, stamp_at, contents_of, listed_of, IsRising};
+ghost use Rattle.ix_dir.specs.declared.dir.Listed.{Listed};
+ghost use Rattle.ix_dir.specs.Images.{Value, values_of, values_step, last_alone, Image, IsImage, IsImageIn};
+ghost use Rattle.ix_dir.specs.WhatAChangeLeaves.{LeavesAt, Adds, AddsTo, IfTold};
+ghost use Rattle.ix_dir.specs.StoodSinceSync.{StoodSince, syncs, is_placed};
 ghost use Rattle.ix_dir.specs.Moves.{Move, Renamed, Synced, area_after, area_step, same_area, same_name};
 ghost use Rattle.ix_dir.specs.Stamps.{stamps_of, IsFresh, HasFreshStamps};
 
 /// One move more takes its step from what stood before it.
 pub fn area_takes_a_step()
     ensures { (moves : List Move) (move : Move) (area : Area) → area_after (moves ++ move ∷ []) area ≡ area_step area (area_after moves area) move }
+{}
+
+/// A read is a find exactly where it answers bytes of the records area.
+pub fn finds_are_of_records()
+    ensures found { is_find {X = List ℕ} Records (Ok (Some [])) ≡ true }
+    ensures nothing { is_find {X = List ℕ} Records (Ok None) ≡ false }
+    ensures units { (result : Result (Option (List ℕ)) DirError) → is_find Units result ≡ false }
+    ensures failed { (error : DirError) → is_find {X = List ℕ} Records (Err error) ≡ false }
 {}
 
 /// One move more takes its step from the values before it.
@@ -39,12 +50,58 @@ pub fn values_stood()
 
 /// Each value that stood there since the area's last sync is among them, unless a file was placed at the name later.
 pub fn values_that_stood_stay()
-    ensures { (moves : List Move) (area : Area) (name : List ℕ) (value : Value) (since : StoodSince moves area name value) → list_any (places area name) (drop since.moment moves) ≡ false → Contains (values_of moves area name) value }
+    ensures { (moves : List Move) (area : Area) (name : List ℕ) (value : Value) (since : StoodSince moves area name value) → list_any (is_placed area name) (drop since.moment moves) ≡ false → Contains (values_of moves area name) value }
 {}
 
 /// What stands is one of the images.
 pub fn standing_is_image()
     ensures { (moves : List Move) → IsImage moves (standing moves) }
+{}
+
+/// A rename through a directory leaves its bytes at its name, and no stamp given twice where none was before.
+pub fn renames_are_changes()
+    ensures left { (old now : List Move) (area : Area) (name bytes : List ℕ) → Renames (Some old) (Some now) area name bytes → LeavesAt area name (Some bytes) old now }
+    ensures fresh { (old now : List Move) (area : Area) (name bytes : List ℕ) → Renames (Some old) (Some now) area name bytes → HasFreshStamps old → HasFreshStamps now }
+{}
+
+/// What is said of moves where they are told holds of them.
+pub fn told_moves_are_spoken_of()
+    ensures { (before now : List Move) (test : List Move → List Move → Bool) → IfTold (Some before) (Some now) (λ b n. IsTrue (test b n)) → IsTrue (test before now) }
+{}
+
+/// What a change leaves, as a look-up of any name in either area.
+pub fn change_leaves()
+    ensures bytes { (area : Area) (name : List ℕ) (value : Value) (before now : List Move) (a : Area) (n : List ℕ) → LeavesAt area name value before now → bytes_at (area_after now a) n ≡ (if same_area a area && same_name name n then value else bytes_at (area_after before a) n) }
+    ensures stamps { (area : Area) (name : List ℕ) (value : Value) (before now : List Move) (a : Area) (n : List ℕ) → LeavesAt area name value before now → (same_area a area && same_name name n) ≡ false → stamp_at (area_after now a) n ≡ stamp_at (area_after before a) n }
+{}
+
+/// After a file was placed at a name, and after a sync of its area, the name has one value.
+pub fn placed_and_synced_values_are_alone()
+    ensures placed { (moves : List Move) (move : Move) (area : Area) (name : List ℕ) → is_placed area name move ≡ true → values_of (moves ++ move ∷ []) area name ≡ bytes_at (area_after (moves ++ move ∷ []) area) name ∷ [] }
+    ensures synced { (moves : List Move) (move : Move) (area : Area) (name : List ℕ) → syncs area move ≡ true → values_of (moves ++ move ∷ []) area name ≡ bytes_at (area_after (moves ++ move ∷ []) area) name ∷ [] }
+{}
+
+/// No two names of a list in rising order are the same.
+pub fn rising_names_are_apart()
+    ensures { (listed : List Listed) (name : List ℕ) (j k : ℕ) → IsRising listed → slice_get (map (λ l. l.name) listed) j ≡ Some name → slice_get (map (λ l. l.name) listed) k ≡ Some name → j ≡ k }
+{}
+
+/// A listed name with its stamp is exactly one that stands.
+pub fn listed_files_stand()
+    ensures { (files : Files) (one : Listed) → Contains (listed_of files) one ↔ (stamp_at files one.name ≡ Some one.stamp) }
+{}
+
+/// A sync takes images away and adds none: of those before it, it leaves the ones that have in its area what stands there.
+pub fn sync_takes_images_away()
+    ensures none_added { (moves : List Move) (area : Area) (image : Image) → IsImage (moves ++ Synced area ∷ []) image → IsImage moves image }
+    ensures stands { (moves : List Move) (area : Area) (image : Image) (name : List ℕ) → IsImage (moves ++ Synced area ∷ []) image → get (image area) name ≡ bytes_at (area_after moves area) name }
+    ensures those_stay { (moves : List Move) (area : Area) (image : Image) → IsImage moves image → ((name : List ℕ) → get (image area) name ≡ bytes_at (area_after moves area) name) → IsImage (moves ++ Synced area ∷ []) image }
+{}
+
+/// From a settled area, a rename or a removal more gives in it what stood before it and what stands after it, and no other contents.
+pub fn one_change_more()
+    ensures renamed { (moves : List Move) (area : Area) (name bytes : List ℕ) (stamp : ℕ) (contents : Contents) → IsSettledIn area moves → IsImageIn area (moves ++ Renamed area name bytes stamp ∷ []) contents ↔ ((contents ≡ standing moves area) ⊎ (contents ≡ standing (moves ++ Renamed area name bytes stamp ∷ []) area)) }
+    ensures removed { (moves : List Move) (area : Area) (name : List ℕ) (contents : Contents) → IsSettledIn area moves → IsImageIn area (moves_removed area name moves) contents ↔ ((contents ≡ standing moves area) ⊎ (contents ≡ standing (moves_removed area name moves) area)) }
 {}
 
 /// Files without their stamps have the bytes that they have.
@@ -73,6 +130,8 @@ pub fn calls_add_moves()
     ensures added { (moves : Option (List Move)) (move : Move) → AddsTo moves (with_move moves move) }
     ensures removed { (moves : Option (List Move)) (area : Area) (name : List ℕ) → AddsTo moves (removed moves area name) }
     ensures same { (moves : Option (List Move)) → AddsTo moves moves }
+    ensures told { (before now : Option (List Move)) → AddsTo before now → is_some now ≡ is_some before }
+    ensures front { (before now : List Move) → AddsTo (Some before) (Some now) → take (length before) now ≡ before }
     ensures both { (first second third : Option (List Move)) → AddsTo first second → AddsTo second third → AddsTo first third }
 {}
 

@@ -4,14 +4,14 @@
 mod area;
 mod crash;
 mod dir;
+mod file_index;
 pub mod laws;
 mod memory;
 mod moves;
-mod pending;
 mod pick;
-mod places;
 mod steady;
 mod untold;
+mod values_by_name;
 
 pub use area::Area;
 pub use dir::{Dir, DirError, Listed};
@@ -19,7 +19,7 @@ pub use memory::MemoryDir;
 pub use moves::Move;
 pub use pick::Pick;
 pub use steady::SteadyDir;
-pub use untold::{Reads, UntoldDir};
+pub use untold::{Reads, ReadsFrom, UntoldDir};
 
 #[cfg(test)]
 mod tests;

@@ -2,31 +2,32 @@
 ghost use Rattle.std.specs.Prelude.{◌≡◌, ◌≢◌, ◌↔◌, ◌+◌, ◌-◌, ◌<◌, ◌≤◌, ℕ, [], ◌∷◌, ◌++◌, List, Option, None, Some, false, is_ok, is_err, is_some, if◌then◌else◌, IsErr, IsErrOf, IsSome, IsTrue, IfOk, IfSome, OnOk, OnErr, length, vec_capacity};
 ghost use Rattle.std.specs.Option.{option_copied, option_map};
 ghost use Rattle.std.specs.FinMap.{get};
-ghost use Rattle.ix_dir.specs.Calls.{with_move, Renames, removed, moves_removed, CountsWhere, is_failed, is_find, SameSlots, OtherSlotsStay};
+ghost use Rattle.ix_dir.specs.Calls.{Renames, moves_removed, is_failed, is_find};
 ghost use Rattle.ix_dir.specs.Crash.{IsPicked, IsSettled, standing};
 ghost use Rattle.ix_dir.specs.Images.{IsImage};
 ghost use Rattle.ix_dir.specs.Files.{bytes_at, listed_of, IsRising};
-ghost use Rattle.ix_dir.specs.InMemory.{InMemory, new_one, counted, next_fails, begun, CallsCounted, placed, slot_at, is_staged, staged_bytes};
-ghost use Rattle.ix_dir.specs.Kept.{IsKept};
+ghost use Rattle.ix_dir.specs.InMemory.{InMemory, new_one, next_fails, begun, moved, placed, slot_at, state_of};
+ghost use Rattle.ix_dir.specs.IndexInvariant.{IsKept};
 ghost use Rattle.ix_dir.specs.Stamps.{IsFresh, HasFreshStamps};
 ghost use Rattle.ix_dir.specs.Moves.{Move, Renamed, Removed, Synced, Placed, area_after};
+ghost use Rattle.ix_dir.specs.State.{staged_bytes, is_staged, with_slot, counted_where};
 
 use crate::area::Area;
 use crate::crash::leave;
 use crate::dir::{Dir, DirError, Listed};
+use crate::file_index::FileIndex;
 use crate::moves::{Move, bytes_put};
 use crate::pick::Pick;
-use crate::places::Places;
 use indexmap::IndexMap;
-use ix_types::{Failed, FileName, Memory, Seq};
+use ix_types::{Failed, FileName, Memory, Seq, count_up};
 use std::alloc::{AllocError, Global};
 use std::marker::Model;
 
 /// A directory in memory. It tells its moves. Calls fail by their number alone.
-#[derive(Drop)]
+#[derive(Debug, Drop)]
 pub struct MemoryDir {
     moves: Vec<Move>,
-    places: Places,
+    index: FileIndex,
     slots: IndexMap<u32, Seq<u8>>,
     spare: u32,
     fails: Seq<u64>,
@@ -38,13 +39,13 @@ pub struct MemoryDir {
 
 impl Model for MemoryDir {
     ghost use Rattle.ix_dir.specs.InMemory.{InMemory};
-    ghost use Rattle.ix_dir.specs.Kept.{IsKept};
+    ghost use Rattle.ix_dir.specs.IndexInvariant.{IsKept};
 
     ghost Value = { InMemory };
 
     ghost view = { λ d. record { moves = d.moves.items; slots = d.slots.entries; spare = d.spare; fails = d.fails; calls = d.calls; faults = d.faults; listings = d.listings; finds = d.finds } };
 
-    ghost invariant = { λ d. IsKept d.moves d.places d.spare };
+    ghost invariant = { λ d. IsKept d.moves d.index d.spare };
 }
 
 impl MemoryDir {
@@ -62,7 +63,7 @@ impl MemoryDir {
     {
         MemoryDir {
             moves: Vec::new(alloc),
-            places: Places::new(alloc),
+            index: FileIndex::new(alloc),
             slots: IndexMap::new(alloc),
             spare: 0,
             fails: calls,
@@ -90,12 +91,11 @@ impl MemoryDir {
     fn begin(&mut self) -> bool
         ensures fails { result ≡ next_fails self.old }
         ensures state { self.new ≡ begun self.old }
-        ensures cause { CountsWhere result self.old.faults self.new.faults }
     {
-        self.calls = self.calls.saturating_add(1);
+        self.calls = count_up(self.calls);
         let fails = self.fails.as_slice().contains(&self.calls);
         if fails {
-            self.faults = self.faults.saturating_add(1);
+            self.faults = count_up(self.faults);
         }
         fails
     }
@@ -109,7 +109,7 @@ impl MemoryDir {
         self.spare = left;
     }
 
-    /// Puts the bytes at the name, in place of what was there.
+    /// Puts the bytes at the name, in number of what was there.
     fn put(&mut self, area: Area, name: FileName, bytes: Seq<u8>)
         requires { 0 < self.old.spare }
         ensures fresh { IsFresh self.old.moves name (length self.old.moves) }
@@ -117,7 +117,7 @@ impl MemoryDir {
     {
         let stamp = self.moves.len() as u64;
         self.spare -= 1;
-        self.places.set(area, name, stamp);
+        self.index.set(area, name, stamp);
         keep(
             &mut self.moves,
             Move::Renamed {
@@ -142,9 +142,9 @@ impl MemoryDir {
         ensures wanting { OnErr result (self.new ≡ self.old) }
     {
         let bytes = Seq::of(Vec::from_slice(alloc, bytes)?);
-        widen(&mut self.moves, &mut self.places, self.spare as usize + 1)?;
+        widen(&mut self.moves, &mut self.index, self.spare as usize + 1)?;
         let number = self.moves.len() as u64;
-        self.places.set(area, name, number);
+        self.index.set(area, name, number);
         keep(
             &mut self.moves,
             Move::Placed {
@@ -163,7 +163,7 @@ impl MemoryDir {
         ensures { self.new ≡ record self.old { moves = moves_removed area name self.old.moves; spare = self.old.spare - 1 } }
     {
         self.spare -= 1;
-        if self.places.remove(area, &name) {
+        if self.index.remove(area, &name) {
             keep(&mut self.moves, Move::Removed { area, name });
         }
     }
@@ -181,8 +181,8 @@ impl MemoryDir {
     fn bytes_of(&self, area: Area, name: &FileName) -> Option<&[u8]>
         ensures { option_copied result ≡ bytes_at (area_after self.now.moves area) name.now }
     {
-        let place = self.places.get(area, name)?;
-        bytes_put(&self.moves, place)
+        let number = self.index.get(area, name)?;
+        bytes_put(&self.moves, number)
     }
 
     /// The names of an area in rising order, with their stamps.
@@ -192,35 +192,23 @@ impl MemoryDir {
         ensures fresh { HasFreshStamps self.old.moves }
         ensures state { self.new ≡ self.old }
     {
-        self.places.list(alloc, area)
+        self.index.list(alloc, area)
     }
 }
 
 impl Dir for MemoryDir {
-    ghost moves = { λ d. Some d.moves };
-
-    ghost faults = { λ d. d.faults };
-
-    ghost listings = { λ d. d.listings };
-
-    ghost finds = { λ d. d.finds };
-
-    ghost spare = { λ d. d.spare };
-
-    ghost staged = { is_staged };
-
-    ghost slot_bytes = { staged_bytes };
+    ghost state = { state_of };
 
     fn reserve(&mut self, _alloc: Global, calls: u32) -> Result<(), Memory>
         ensures room { OnOk result (calls ≤ self.new.spare) }
-        ensures kept { self.old.spare ≤ self.new.spare }
+        ensures more { self.old.spare ≤ self.new.spare }
+        ensures others { self.new ≡ record self.old { spare = self.new.spare } }
         ensures wanting { OnErr result (self.new ≡ self.old) }
-        ensures state { self.new ≡ record self.old { spare = self.new.spare } }
     {
         if calls <= self.spare {
             return Ok(());
         }
-        widen(&mut self.moves, &mut self.places, calls as usize)?;
+        widen(&mut self.moves, &mut self.index, calls as usize)?;
         self.spare = calls;
         Ok(())
     }
@@ -229,20 +217,14 @@ impl Dir for MemoryDir {
         ensures listed { IfOk result (λ listed. listed ≡ listed_of (area_after self.old.moves area)) }
         ensures rising { IfOk result IsRising }
         ensures fresh { OnOk result (HasFreshStamps self.old.moves) }
-        ensures fails { IsErrOf result DirError.Failed ↔ IsTrue (next_fails self.old) }
-        ensures numbers { CallsCounted self.old self.new }
-        ensures cause { CountsWhere (is_failed result) self.old.faults self.new.faults }
-        ensures listings { CountsWhere (is_ok result) self.old.listings self.new.listings }
-        ensures finds { self.new.finds ≡ self.old.finds }
-        ensures moves { self.new.moves ≡ self.old.moves }
-        ensures slots { self.new.slots ≡ self.old.slots }
-        ensures spare { self.new.spare ≡ self.old.spare }
+        ensures fails { is_failed result ≡ next_fails self.old }
+        ensures state { self.new ≡ record (begun self.old) { listings = counted_where (is_ok result) self.old.listings } }
     {
         if self.begin() {
             return Err(DirError::Failed);
         }
         let listed = self.names_of(alloc, area)?;
-        self.listings = self.listings.saturating_add(1);
+        self.listings = count_up(self.listings);
         Ok(Seq::of(listed))
     }
 
@@ -253,14 +235,8 @@ impl Dir for MemoryDir {
         name: FileName,
     ) -> Result<Option<Seq<u8>>, DirError>
         ensures bytes { IfOk result (λ found. found ≡ bytes_at (area_after self.old.moves area) name) }
-        ensures fails { IsErrOf result DirError.Failed ↔ IsTrue (next_fails self.old) }
-        ensures numbers { CallsCounted self.old self.new }
-        ensures cause { CountsWhere (is_failed result) self.old.faults self.new.faults }
-        ensures finds { CountsWhere (is_find area result) self.old.finds self.new.finds }
-        ensures listings { self.new.listings ≡ self.old.listings }
-        ensures moves { self.new.moves ≡ self.old.moves }
-        ensures slots { self.new.slots ≡ self.old.slots }
-        ensures spare { self.new.spare ≡ self.old.spare }
+        ensures fails { is_failed result ≡ next_fails self.old }
+        ensures state { self.new ≡ record (begun self.old) { finds = counted_where (is_find area result) self.old.finds } }
     {
         if self.begin() {
             return Err(DirError::Failed);
@@ -270,21 +246,15 @@ impl Dir for MemoryDir {
             None => return Ok(None),
         };
         if area == Area::Records {
-            self.finds = self.finds.saturating_add(1);
+            self.finds = count_up(self.finds);
         }
         Ok(Some(Seq::of(bytes)))
     }
 
     fn stage(&mut self, alloc: Global, slot: u32, bytes: &[u8]) -> Result<(), DirError>
-        ensures staged { slot_at self.new slot ≡ (if is_ok result then Some bytes.now else None) }
-        ensures others { (other : ℕ) → other ≢ slot → slot_at self.new other ≡ slot_at self.old other }
-        ensures fails { IsErrOf result DirError.Failed ↔ IsTrue (next_fails self.old) }
-        ensures numbers { CallsCounted self.old self.new }
-        ensures cause { CountsWhere (is_failed result) self.old.faults self.new.faults }
-        ensures listings { self.new.listings ≡ self.old.listings }
-        ensures finds { self.new.finds ≡ self.old.finds }
-        ensures moves { self.new.moves ≡ self.old.moves }
-        ensures spare { self.new.spare ≡ self.old.spare }
+        ensures staged { (other : ℕ) → slot_at self.new other ≡ with_slot (slot_at self.old) slot (if is_ok result then Some bytes.now else None) other }
+        ensures fails { is_failed result ≡ next_fails self.old }
+        ensures state { self.new ≡ record (begun self.old) { slots = self.new.slots } }
     {
         let fails = self.begin();
         let _before = self.slots.swap_remove(&slot);
@@ -297,20 +267,13 @@ impl Dir for MemoryDir {
     }
 
     fn rename(&mut self, slot: u32, area: Area, name: FileName) -> Result<(), Failed>
-        requires staged { IsTrue (is_staged self.old slot) }
+        requires staged { IsTrue (is_staged (state_of self.old) slot) }
         requires room { 0 < self.old.spare }
-        ensures renamed { OnOk result (Renames (Some self.old.moves) (Some self.new.moves) area name (staged_bytes self.old slot)) }
-        ensures stamp { OnOk result (self.new.moves ≡ self.old.moves ++ Renamed area name (staged_bytes self.old slot) (length self.old.moves) ∷ []) }
-        ensures emptied { OnOk result (slot_at self.new slot ≡ None) }
-        ensures others { (other : ℕ) → other ≢ slot → slot_at self.new other ≡ slot_at self.old other }
-        ensures failed { OnErr result (self.new.moves ≡ self.old.moves) }
+        ensures renamed { OnOk result (Renames (Some self.old.moves) (Some self.new.moves) area name (staged_bytes (state_of self.old) slot)) }
+        ensures emptied { OnOk result ((other : ℕ) → slot_at self.new other ≡ with_slot (slot_at self.old) slot None other) }
         ensures kept { OnErr result (self.new.slots ≡ self.old.slots) }
-        ensures fails { IsErr result ↔ IsTrue (next_fails self.old) }
-        ensures numbers { CallsCounted self.old self.new }
-        ensures cause { CountsWhere (is_err result) self.old.faults self.new.faults }
-        ensures listings { self.new.listings ≡ self.old.listings }
-        ensures finds { self.new.finds ≡ self.old.finds }
-        ensures spare { self.new.spare + 1 ≡ self.old.spare }
+        ensures fails { is_err result ≡ next_fails self.old }
+        ensures state { self.new ≡ record (moved (self.old.moves ++ Renamed area name (staged_bytes (state_of self.old) slot) (length self.old.moves) ∷ []) self.old) { slots = self.new.slots } }
     {
         if self.begin() {
             self.use_room();
@@ -325,15 +288,8 @@ impl Dir for MemoryDir {
 
     fn remove(&mut self, area: Area, name: FileName) -> Result<(), Failed>
         requires { 0 < self.old.spare }
-        ensures removed { OnOk result (self.new.moves ≡ moves_removed area name self.old.moves) }
-        ensures failed { OnErr result (self.new.moves ≡ self.old.moves) }
-        ensures fails { IsErr result ↔ IsTrue (next_fails self.old) }
-        ensures numbers { CallsCounted self.old self.new }
-        ensures cause { CountsWhere (is_err result) self.old.faults self.new.faults }
-        ensures slots { self.new.slots ≡ self.old.slots }
-        ensures listings { self.new.listings ≡ self.old.listings }
-        ensures finds { self.new.finds ≡ self.old.finds }
-        ensures spare { self.new.spare + 1 ≡ self.old.spare }
+        ensures fails { is_err result ≡ next_fails self.old }
+        ensures state { self.new ≡ moved (moves_removed area name self.old.moves) self.old }
     {
         if self.begin() {
             self.use_room();
@@ -345,15 +301,8 @@ impl Dir for MemoryDir {
 
     fn sync(&mut self, area: Area) -> Result<(), Failed>
         requires { 0 < self.old.spare }
-        ensures synced { OnOk result (self.new.moves ≡ self.old.moves ++ Synced area ∷ []) }
-        ensures failed { OnErr result (self.new.moves ≡ self.old.moves) }
-        ensures fails { IsErr result ↔ IsTrue (next_fails self.old) }
-        ensures numbers { CallsCounted self.old self.new }
-        ensures cause { CountsWhere (is_err result) self.old.faults self.new.faults }
-        ensures slots { self.new.slots ≡ self.old.slots }
-        ensures listings { self.new.listings ≡ self.old.listings }
-        ensures finds { self.new.finds ≡ self.old.finds }
-        ensures spare { self.new.spare + 1 ≡ self.old.spare }
+        ensures fails { is_err result ≡ next_fails self.old }
+        ensures state { self.new ≡ moved (self.old.moves ++ Synced area ∷ []) self.old }
     {
         if self.begin() {
             self.use_room();
@@ -377,11 +326,11 @@ fn keep(moves: &mut Vec<Move>, one: Move)
 }
 
 /// Makes room for so many more moves, each of which may bring a name.
-fn widen(moves: &mut Vec<Move>, places: &mut Places, room: usize) -> Result<(), AllocError>
+fn widen(moves: &mut Vec<Move>, index: &mut FileIndex, room: usize) -> Result<(), AllocError>
     ensures same { moves.new.items ≡ moves.old.items }
-    ensures kept { (spare : ℕ) → IsKept moves.old places.old spare → IsKept moves.new places.new spare }
-    ensures room { OnOk result ((spare : ℕ) → IsKept moves.old places.old spare → IsKept moves.new places.new room) }
+    ensures kept { (spare : ℕ) → IsKept moves.old index.old spare → IsKept moves.new index.new spare }
+    ensures room { OnOk result ((spare : ℕ) → IsKept moves.old index.old spare → IsKept moves.new index.new room) }
 {
     moves.reserve(room)?;
-    places.reserve(room)
+    index.reserve(room)
 }

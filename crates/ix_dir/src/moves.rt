@@ -1,15 +1,15 @@
 //! The moves of a directory.
 ghost use Rattle.std.specs.Prelude.{◌≡◌};
 ghost use Rattle.std.specs.Option.{option_copied};
-ghost use Rattle.ix_dir.specs.PlacedValues.{bytes_put as put_bytes};
+ghost use Rattle.ix_dir.specs.ValuesByNumber.{bytes_put as put_bytes};
 
 use crate::area::Area;
 use ix_types::{FileName, Seq};
 
 /// A change of a directory that took effect.
-#[derive(Drop)]
+#[derive(Debug, Drop, PartialEq, Eq)]
 pub enum Move {
-    /// The bytes of a slot came to stand at the name, in place of what was there.
+    /// The bytes of a slot came to stand at the name, in number of what was there.
     Renamed {
         area: Area,
         name: FileName,
@@ -34,11 +34,11 @@ pub enum Move {
     },
 }
 
-/// The bytes that the move at a place put.
-pub fn bytes_put(moves: &[Move], place: u64) -> Option<&[u8]>
-    ensures { option_copied result ≡ put_bytes moves.now place }
+/// The bytes that the move at a number put.
+pub fn bytes_put(moves: &[Move], number: u64) -> Option<&[u8]>
+    ensures { option_copied result ≡ put_bytes moves.now number }
 {
-    match moves.get(place as usize) {
+    match moves.get(number as usize) {
         Some(Move::Renamed { bytes, .. }) => Some(bytes.as_slice()),
         Some(Move::Placed { bytes, .. }) => Some(bytes.as_slice()),
         _ => None,

@@ -1,8 +1,8 @@
 //! A directory in memory that never fails.
-ghost use Rattle.std.specs.Prelude.{◌≡◌, [], IfOk, OnOk, OnErr, Some, length};
+ghost use Rattle.std.specs.Prelude.{◌≡◌, [], IfOk, OnOk, OnErr, length};
 ghost use Rattle.ix_dir.specs.Crash.{IsPicked, IsSettled, standing};
 ghost use Rattle.ix_dir.specs.Images.{IsImage};
-ghost use Rattle.ix_dir.specs.InMemory.{new_one, placed, is_staged, staged_bytes};
+ghost use Rattle.ix_dir.specs.InMemory.{new_one, placed, state_of};
 ghost use Rattle.ix_dir.specs.Stamps.{IsFresh};
 
 use crate::area::Area;
@@ -14,7 +14,7 @@ use std::alloc::Global;
 use std::marker::Model;
 
 /// A directory in memory of which no call fails, seen as a `MemoryDir` is. It tells its moves.
-#[derive(Drop)]
+#[derive(Debug, Drop)]
 pub struct SteadyDir {
     inner: MemoryDir,
 }
@@ -68,19 +68,7 @@ impl SteadyDir {
 }
 
 impl Dir for SteadyDir {
-    ghost moves = { λ d. Some d.moves };
-
-    ghost faults = { λ d. 0 };
-
-    ghost listings = { λ d. d.listings };
-
-    ghost finds = { λ d. d.finds };
-
-    ghost spare = { λ d. d.spare };
-
-    ghost staged = { is_staged };
-
-    ghost slot_bytes = { staged_bytes };
+    ghost state = { λ d. record (state_of d) { faults = 0 } };
 
     fn reserve(&mut self, alloc: Global, calls: u32) -> Result<(), Memory> {
         self.inner.reserve(alloc, calls)

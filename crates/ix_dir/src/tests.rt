@@ -1,292 +1,272 @@
+//! What a crash leaves, which calls fail, and what each kind of directory answers. A test ends where a call goes wrong.
 use super::*;
 use ix_types::{FileName, Seq};
 use std::alloc::Global;
 use std::process::Abort;
-use std::test::Fail;
 
-fn named(rt: &impl Abort, digits: &[u8]) -> FileName {
-    FileName::read(digits).expect(rt, "a name")
+fn named(rt: &impl Abort, digits: &str) -> FileName {
+    FileName::read(digits.as_bytes()).expect(rt, "a name")
 }
 
-fn put<D: Dir>(
+/// Puts the bytes at the name, or takes the name away where they are `-`.
+fn change<D: Dir>(
     alloc: Global,
+    rt: &impl Abort,
     dir: &mut D,
     area: Area,
     name: FileName,
-    bytes: &[u8],
-) -> Result<(), Fail> {
-    dir.stage(alloc, 0, bytes)?;
-    dir.reserve(alloc, 1)?;
-    dir.rename(0, area, name)?;
-    Ok(())
+    bytes: &str,
+) {
+    dir.reserve(alloc, 1).expect(rt, "room");
+    if bytes == "-" {
+        return dir.remove(area, name).expect(rt, "a removal");
+    }
+    dir.stage(alloc, 0, bytes.as_bytes()).expect(rt, "a slot");
+    dir.rename(0, area, name).expect(rt, "a rename");
 }
 
-fn sync<D: Dir>(alloc: Global, dir: &mut D, area: Area) -> Result<(), Fail> {
-    dir.reserve(alloc, 1)?;
-    dir.sync(area)?;
-    Ok(())
+fn sync<D: Dir>(alloc: Global, rt: &impl Abort, dir: &mut D, area: Area) {
+    dir.reserve(alloc, 1).expect(rt, "room");
+    dir.sync(area).expect(rt, "a sync");
 }
 
-fn remove<D: Dir>(alloc: Global, dir: &mut D, area: Area, name: FileName) -> Result<(), Fail> {
-    dir.reserve(alloc, 1)?;
-    dir.remove(area, name)?;
-    Ok(())
+/// Steps, and after `?` a pick with what a crash then leaves of units and records. A step is an area, a name and its new bytes, or
+/// `-` for a removal; an area alone, for a sync; or `place`, a name and bytes, for a unit that is placed.
+const CRASHES: &str = "\
+new
+u ab x
+u ab y
+? oldest | |
+? 1 | ab=x |
+? 4 | ab=x |
+? newest | ab=y |
+u
+? oldest | ab=y |
+? 1 | ab=y |
+? 4 | ab=y |
+? newest | ab=y |
+new
+place ab p
+u ab x
+u ab x
+u ab -
+u ab -
+? 0 | ab=p |
+? 2 | ab=x |
+? 3 | |
+? 4 | ab=p |
+new
+u ab 1
+u cd 2
+u 99 9
+u 99 -
+u 77 0
+r 0b s
+u
+r
+u ab 3
+u ab 4
+u cd -
+u cd -
+u 11 -
+u ef 5
+u 0a 6
+u 0a -
+u 77 8
+r 0b -
+r ab r
+r ab r
+place 77 7
+? oldest | 77=7 ab=1 cd=2 | 0b=s
+? newest | 77=7 ab=4 ef=5 | ab=r
+? 0 | 77=7 ab=4 | 0b=s ab=r
+? 1 | 0a=6 77=7 ab=1 cd=2 ef=5 | ab=r
+? 2 | 77=7 ab=3 | 0b=s
+? 3 | 77=7 ab=4 cd=2 ef=5 | ab=r
+u
+? oldest | 77=7 ab=4 ef=5 | 0b=s
+r
+? oldest | 77=7 ab=4 ef=5 | ab=r
+? 1 | 77=7 ab=4 ef=5 | ab=r";
+
+fn pick_of(rt: &impl Abort, word: &str) -> Pick {
+    match word {
+        "oldest" => Pick::Oldest,
+        "newest" => Pick::Newest,
+        _ => Pick::Nth(word.parse().expect(rt, "a number")),
+    }
 }
 
-/// Steps over both areas: an area, a name and its new bytes, or `-` for a removal; or an area alone, for a sync.
-const STEPS: &str =
-    "u ab 1,u cd 2,u 99 9,u 99 -,u 77 0,r 0b s,u,r,u ab 3,u ab 4,u cd -,u cd -,u 11 -,u ef 5,u 0a 6,u 0a -,u 77 8,r 0b -,r ab r,r ab r";
+/// Checks that a listed file is the wanted one, as `ab=1`.
+fn check_file<D: Dir>(
+    alloc: Global,
+    rt: &impl Abort,
+    dir: &mut D,
+    area: Area,
+    name: FileName,
+    want: &str,
+) {
+    let (digits, bytes) = want.split_once('=').expect(rt, "a file");
+    assert_eq!(rt; name.bytes(), digits.as_bytes());
+    let found = dir.read(alloc, area, name).expect(rt, "a read");
+    let found = found.expect(rt, "a file");
+    assert_eq!(rt; found.as_slice(), bytes.as_bytes());
+}
 
-fn take_step(alloc: Global, rt: &impl Abort, dir: &mut MemoryDir, step: &str) -> Result<(), Fail> {
-    let mut words = step.split(' ');
-    let area = if words.next() == Some("u") {
-        Area::Units
-    } else {
+/// Checks that these files stand in an area, in this order, and no others.
+fn check_area<D: Dir>(alloc: Global, rt: &impl Abort, dir: &mut D, area: Area, want: &str) {
+    let listed = dir.list(alloc, area).expect(rt, "a list");
+    let mut words = want.split_whitespace();
+    for one in listed.as_slice() {
+        let word = words.next().expect(rt, want);
+        check_file(alloc, rt, dir, area, one.name, word);
+    }
+    assert!(rt; words.next().is_none(), "{want}");
+}
+
+fn check_left(alloc: Global, rt: &impl Abort, dir: &MemoryDir, line: &str) {
+    let (pick, files) = line.split_once('|').expect(rt, "a pick");
+    let (units, records) = files.split_once('|').expect(rt, "two areas");
+    let pick = pick_of(rt, pick.trim());
+    let mut left = dir.stopped(alloc, pick).expect(rt, "what is left");
+    check_area(alloc, rt, &mut left, Area::Units, units);
+    check_area(alloc, rt, &mut left, Area::Records, records);
+}
+
+fn take_step(alloc: Global, rt: &impl Abort, dir: &mut MemoryDir, line: &str) {
+    let mut words = line.split(' ');
+    let first = words.next().expect(rt, "a word");
+    let area = if first == "r" {
         Area::Records
+    } else {
+        Area::Units
     };
     let Some(name) = words.next() else {
-        return sync(alloc, dir, area);
+        return sync(alloc, rt, dir, area);
     };
-    let name = named(rt, name.as_bytes());
-    match words.next() {
-        Some(bytes) if bytes != "-" => put(alloc, dir, area, name, bytes.as_bytes()),
-        _ => remove(alloc, dir, area, name),
+    let name = named(rt, name);
+    let bytes = words.next().expect(rt, "bytes");
+    if first == "place" {
+        let placed = dir.place(alloc, area, name, bytes.as_bytes());
+        return placed.expect(rt, "a file");
     }
+    change(alloc, rt, dir, area, name, bytes);
 }
 
-fn take_steps(
-    alloc: Global,
-    rt: &impl Abort,
-    dir: &mut MemoryDir,
-    steps: &str,
-) -> Result<(), Fail> {
-    for step in steps.split(',') {
-        take_step(alloc, rt, dir, step)?;
-    }
-    Ok(())
-}
-
-/// Adds the files of an area, as ` ab=1`.
-fn add_files(
-    alloc: Global,
-    dir: &mut MemoryDir,
-    area: Area,
-    image: &mut Vec<u8>,
-) -> Result<(), Fail> {
-    let listed = dir.list(alloc, area)?;
-    for one in listed.as_slice() {
-        if let Some(bytes) = dir.read(alloc, area, one.name)? {
-            image.push(b' ')?;
-            image.extend_from_slice(one.name.bytes())?;
-            image.push(b'=')?;
-            image.extend_from_slice(bytes.as_slice())?;
+#[test]
+fn a_crash_leaves_each_name_one_of_its_values(rt: HostRuntime) {
+    let alloc = rt.alloc();
+    let mut dir = MemoryDir::new(alloc);
+    for line in CRASHES.lines() {
+        if line == "new" {
+            dir = MemoryDir::new(alloc);
+        } else if let Some(want) = line.strip_prefix("? ") {
+            check_left(alloc, &rt, &dir, want);
+        } else {
+            take_step(alloc, &rt, &mut dir, line);
         }
     }
-    Ok(())
 }
 
-fn check_left(
-    alloc: Global,
-    rt: &impl Abort,
-    dir: &MemoryDir,
-    pick: Pick,
-    want: &[u8],
-) -> Result<(), Fail> {
-    let mut left = dir.stopped(alloc, pick)?;
-    let mut image = Vec::from_slice(alloc, b"u")?;
-    add_files(alloc, &mut left, Area::Units, &mut image)?;
-    image.extend_from_slice(b" r")?;
-    add_files(alloc, &mut left, Area::Records, &mut image)?;
-    assert_eq!(rt; image.as_slice(), want, "at {pick:?}");
-    Ok(())
-}
-
-/// Units: 0a was absent, 6, absent; 77 is 7 alone; ab was 1, 3, 4; cd was 2, absent; ef was absent, 5. 99 and 11 had no file.
-/// Records: 0b was s, absent; ab was absent, r, r.
-fn check_pending(alloc: Global, rt: &impl Abort, dir: &MemoryDir) -> Result<(), Fail> {
-    check_left(alloc, rt, dir, Pick::Oldest, b"u 77=7 ab=1 cd=2 r 0b=s")?;
-    check_left(alloc, rt, dir, Pick::Newest, b"u 77=7 ab=4 ef=5 r ab=r")?;
-    check_left(alloc, rt, dir, Pick::Nth(0), b"u 77=7 ab=4 r 0b=s ab=r")?;
-    check_left(
-        alloc,
-        rt,
-        dir,
-        Pick::Nth(1),
-        b"u 0a=6 77=7 ab=1 cd=2 ef=5 r ab=r",
-    )?;
-    check_left(alloc, rt, dir, Pick::Nth(2), b"u 77=7 ab=3 r 0b=s")?;
-    check_left(
-        alloc,
-        rt,
-        dir,
-        Pick::Nth(3),
-        b"u 77=7 ab=4 cd=2 ef=5 r ab=r",
-    )
-}
-
-fn check_synced(alloc: Global, rt: &impl Abort, dir: &MemoryDir) -> Result<(), Fail> {
-    check_left(alloc, rt, dir, Pick::Oldest, b"u 77=7 ab=4 ef=5 r ab=r")?;
-    check_left(alloc, rt, dir, Pick::Nth(1), b"u 77=7 ab=4 ef=5 r ab=r")
-}
-
-/// Two renames to one name.
-fn check_twice(alloc: Global, rt: &impl Abort, dir: &MemoryDir) -> Result<(), Fail> {
-    check_left(alloc, rt, dir, Pick::Oldest, b"u r")?;
-    check_left(alloc, rt, dir, Pick::Nth(1), b"u ab=x r")?;
-    check_left(alloc, rt, dir, Pick::Nth(4), b"u ab=x r")?;
-    check_left(alloc, rt, dir, Pick::Newest, b"u ab=y r")
-}
-
-/// The same two, synced.
-fn check_twice_synced(alloc: Global, rt: &impl Abort, dir: &MemoryDir) -> Result<(), Fail> {
-    check_left(alloc, rt, dir, Pick::Oldest, b"u ab=y r")?;
-    check_left(alloc, rt, dir, Pick::Nth(1), b"u ab=y r")?;
-    check_left(alloc, rt, dir, Pick::Nth(4), b"u ab=y r")?;
-    check_left(alloc, rt, dir, Pick::Newest, b"u ab=y r")
-}
-
-#[test]
-fn a_crash_leaves_one_of_the_values(rt: HostRuntime) -> Result<(), Fail> {
-    let alloc = rt.alloc();
-    let mut dir = MemoryDir::new(alloc);
-    take_steps(alloc, &rt, &mut dir, "u ab x,u ab y")?;
-    check_twice(alloc, &rt, &dir)?;
-    take_steps(alloc, &rt, &mut dir, "u")?;
-    check_twice_synced(alloc, &rt, &dir)
-}
-
-/// The second removal finds nothing, and counts for nothing.
-fn check_equal(alloc: Global, rt: &impl Abort, dir: &MemoryDir) -> Result<(), Fail> {
-    check_left(alloc, rt, dir, Pick::Nth(0), b"u ab=p r")?;
-    check_left(alloc, rt, dir, Pick::Nth(2), b"u ab=x r")?;
-    check_left(alloc, rt, dir, Pick::Nth(3), b"u r")?;
-    check_left(alloc, rt, dir, Pick::Nth(4), b"u ab=p r")
-}
-
-#[test]
-fn equal_values_and_removals_count(rt: HostRuntime) -> Result<(), Fail> {
-    let alloc = rt.alloc();
-    let mut dir = MemoryDir::new(alloc);
-    dir.place(alloc, Area::Units, named(&rt, b"ab"), b"p")?;
-    take_steps(alloc, &rt, &mut dir, "u ab x,u ab x,u ab -,u ab -")?;
-    check_equal(alloc, &rt, &dir)
-}
-
-#[test]
-fn a_crash_leaves_each_name_one_of_its_values(rt: HostRuntime) -> Result<(), Fail> {
-    let alloc = rt.alloc();
-    let mut dir = MemoryDir::new(alloc);
-    take_steps(alloc, &rt, &mut dir, STEPS)?;
-    dir.place(alloc, Area::Units, named(&rt, b"77"), b"7")?;
-    check_pending(alloc, &rt, &dir)?;
-    take_steps(alloc, &rt, &mut dir, "u,r")?;
-    check_synced(alloc, &rt, &dir)
-}
-
-fn sync_answer(alloc: Global, dir: &mut MemoryDir) -> Result<bool, Fail> {
-    dir.reserve(alloc, 1)?;
-    Ok(dir.sync(Area::Records).is_ok())
-}
-
-fn list_answer(alloc: Global, dir: &mut MemoryDir) -> bool {
-    dir.list(alloc, Area::Units).is_ok()
-}
-
-#[test]
-fn calls_fail_by_their_numbers(rt: HostRuntime) -> Result<(), Fail> {
-    let alloc = rt.alloc();
-    let mut dir = MemoryDir::failing(alloc, Seq::of(vec![in alloc; 4, 2]?));
-    assert!(rt; list_answer(alloc, &mut dir));
-    assert!(rt; !list_answer(alloc, &mut dir));
-    assert!(rt; sync_answer(alloc, &mut dir)?);
-    assert!(rt; !sync_answer(alloc, &mut dir)?);
-    assert!(rt; sync_answer(alloc, &mut dir)?);
-    Ok(())
-}
-
-fn write_two<D: Dir>(alloc: Global, rt: &impl Abort, dir: &mut D) -> Result<(), Fail> {
-    put(alloc, dir, Area::Records, named(rt, b"cd"), b"c")?;
-    put(alloc, dir, Area::Records, named(rt, b"ab"), b"a")?;
-    sync(alloc, dir, Area::Records)
-}
-
-fn check_list<D: Dir>(
-    alloc: Global,
-    rt: &impl Abort,
-    dir: &mut D,
-    want: &[Listed],
-) -> Result<(), Fail> {
-    let listed = dir.list(alloc, Area::Records)?;
-    assert!(rt; listed.as_slice() == want);
-    Ok(())
-}
-
-fn check_read<D: Dir>(
-    alloc: Global,
-    rt: &impl Abort,
-    dir: &mut D,
-    name: FileName,
-    want: &[u8],
-) -> Result<(), Fail> {
-    match dir.read(alloc, Area::Records, name)? {
-        Some(bytes) => assert_eq!(rt; bytes.as_slice(), want),
-        None => assert!(rt; want.is_empty()),
+/// Whether a list or, in between, a sync succeeds.
+fn succeeds(alloc: Global, rt: &impl Abort, dir: &mut MemoryDir, call: &str) -> bool {
+    if call == "list" {
+        return dir.list(alloc, Area::Units).is_ok();
     }
-    Ok(())
+    dir.reserve(alloc, 1).expect(rt, "room");
+    dir.sync(Area::Records).is_ok()
+}
+
+#[test]
+fn calls_fail_by_their_numbers(rt: HostRuntime) {
+    let alloc = rt.alloc();
+    let fails = vec![in alloc; 4, 2].expect(&rt, "two numbers");
+    let mut dir = MemoryDir::failing(alloc, Seq::of(fails));
+    for line in "list ok,list fails,sync ok,sync fails,sync ok".split(',') {
+        let (call, want) = line.split_once(' ').expect(&rt, "two words");
+        let succeeded = succeeds(alloc, &rt, &mut dir, call);
+        assert!(rt; succeeded == (want == "ok"), "{line}");
+    }
 }
 
 /// Each call once, through the bound.
-fn each_call<D: Dir>(alloc: Global, rt: &impl Abort, dir: &mut D) -> Result<(), Fail> {
-    write_two(alloc, rt, dir)?;
-    let ab = named(rt, b"ab");
-    let cd = named(rt, b"cd");
+fn each_call<D: Dir>(alloc: Global, rt: &impl Abort, dir: &mut D) {
+    let ab = named(rt, "ab");
+    let cd = named(rt, "cd");
+    change(alloc, rt, dir, Area::Records, cd, "c");
+    change(alloc, rt, dir, Area::Records, ab, "a");
+    sync(alloc, rt, dir, Area::Records);
+    let listed = dir.list(alloc, Area::Records).expect(rt, "a list");
     let want = [Listed { name: ab, stamp: 1 }, Listed { name: cd, stamp: 0 }];
-    check_list(alloc, rt, dir, &want)?;
-    check_read(alloc, rt, dir, cd, b"c")?;
-    remove(alloc, dir, Area::Records, cd)?;
-    check_read(alloc, rt, dir, cd, b"")
+    assert!(rt; listed.as_slice() == want.as_slice());
+    change(alloc, rt, dir, Area::Records, ab, "-");
+    check_area(alloc, rt, dir, Area::Records, "cd=c");
+    check_area(alloc, rt, dir, Area::Units, "");
 }
 
 #[test]
-fn both_directories_answer_each_call(rt: HostRuntime) -> Result<(), Fail> {
+fn each_directory_answers_each_call(rt: HostRuntime) {
     let alloc = rt.alloc();
-    each_call(alloc, &rt, &mut MemoryDir::new(alloc))?;
-    each_call(alloc, &rt, &mut SteadyDir::new(alloc))
+    each_call(alloc, &rt, &mut MemoryDir::new(alloc));
+    each_call(alloc, &rt, &mut SteadyDir::new(alloc));
+    let inner = MemoryDir::new(alloc);
+    each_call(alloc, &rt, &mut UntoldDir::new(inner, Reads::Whole));
 }
 
 #[test]
-fn a_steady_directory_is_placed_in_and_stopped(rt: HostRuntime) -> Result<(), Fail> {
+fn a_steady_directory_is_placed_in_and_stopped(rt: HostRuntime) {
     let alloc = rt.alloc();
     let mut steady = SteadyDir::new(alloc);
-    steady.place(alloc, Area::Records, named(&rt, b"ab"), b"a")?;
-    let mut left = steady.stopped(alloc, Pick::Oldest)?;
-    check_read(alloc, &rt, &mut left, named(&rt, b"ab"), b"a")
+    let placed = steady.place(alloc, Area::Records, named(&rt, "ab"), b"a");
+    placed.expect(&rt, "a file");
+    let left = steady.stopped(alloc, Pick::Oldest);
+    let mut left = left.expect(&rt, "what is left");
+    check_area(alloc, &rt, &mut left, Area::Records, "ab=a");
 }
 
-fn check_wrong_reads(alloc: Global, rt: &impl Abort, dir: &mut UntoldDir) -> Result<(), Fail> {
-    let ab = named(rt, b"ab");
-    dir.set_reads(Reads::ByteLess);
-    check_read(alloc, rt, dir, ab, b"xy")?;
-    dir.set_reads(Reads::Nothing);
-    assert!(rt; dir.read(alloc, Area::Records, ab)?.is_none());
-    dir.set_reads(Reads::Whole);
-    check_read(alloc, rt, dir, ab, b"xyz")
+/// What a read of the name answers, `-` where it finds nothing.
+fn check_read(alloc: Global, rt: &impl Abort, dir: &mut UntoldDir, want: &str) {
+    let found = dir.read(alloc, Area::Records, named(rt, "ab"));
+    match found.expect(rt, "a read") {
+        Some(bytes) => assert_eq!(rt; bytes.as_slice(), want.as_bytes()),
+        None => assert_eq!(rt; want, "-"),
+    }
 }
 
 #[test]
-fn a_directory_that_does_not_tell_may_read_wrongly(rt: HostRuntime) -> Result<(), Fail> {
+fn reads_go_wrong_as_they_are_told_to(rt: HostRuntime) {
     let alloc = rt.alloc();
-    let mut dir = UntoldDir::new(MemoryDir::new(alloc), Reads::Whole);
-    each_call(alloc, &rt, &mut dir)?;
-    put(alloc, &mut dir, Area::Records, named(&rt, b"ab"), b"xyz")?;
-    check_wrong_reads(alloc, &rt, &mut dir)
+    let mut dir = UntoldDir::new(MemoryDir::new(alloc), Reads::ByteLess);
+    change(alloc, &rt, &mut dir, Area::Records, named(&rt, "ab"), "xyz");
+    check_read(alloc, &rt, &mut dir, "xy");
+    dir.set_reads(Reads::Nothing);
+    check_read(alloc, &rt, &mut dir, "-");
+    dir.set_reads(Reads::Whole);
+    check_read(alloc, &rt, &mut dir, "xyz");
+    dir.set_changes(Seq::of(changes(alloc, &rt)));
+    for want in ["xyz", "-", "-", "xy"] {
+        check_read(alloc, &rt, &mut dir, want);
+    }
+}
+
+/// The fifth and the sixth read find nothing, and those from the seventh on a byte less.
+fn changes(alloc: Global, rt: &impl Abort) -> Vec<ReadsFrom> {
+    let nothing = ReadsFrom {
+        read: 5,
+        reads: Reads::Nothing,
+    };
+    let less = ReadsFrom {
+        read: 7,
+        reads: Reads::ByteLess,
+    };
+    Vec::from_slice(alloc, &[nothing, less]).expect(rt, "two changes")
 }
 
 #[test]
-fn errors_have_texts(rt: HostRuntime) -> Result<(), Fail> {
+fn errors_have_texts(rt: HostRuntime) {
     let alloc = rt.alloc();
     for (error, want) in [(DirError::Failed, "failed"), (DirError::Memory, "memory")] {
-        assert_eq!(rt; format!(in alloc; "{error}")?.as_str(), want);
+        let text = format!(in alloc; "{error}").expect(&rt, "a text");
+        assert_eq!(rt; text.as_str(), want);
     }
-    Ok(())
 }

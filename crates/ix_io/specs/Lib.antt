@@ -1,3 +1,4 @@
 pub mod Adapter
+pub mod Failures
 pub mod Memory
 pub mod Transfer

@@ -1,9 +1,5 @@
 -- What contracts see of a source and of a sink in memory.
-use Rattle.std.specs.Prelude.{ℕ, ◌+◌, ◌-◌, ◌^◌, min, List}
-
--- the number after n in a counter of 64 bits, which stands still at its greatest value
-abbrev pub next_number : ℕ → ℕ
-next_number n = min (n + 1) (2 ^ 64 - 1)
+use Rattle.std.specs.Prelude.{ℕ, List}
 
 -- the bytes that are left, the most that a read gives, the numbers of the reads that fail,
 -- and how many reads and how many failed ones there were

@@ -1,15 +1,15 @@
 -- What is read up to a limit, and what a transfer took.
 use Rattle.std.specs.Prelude.{◌≡◌, ℕ, ◌<◌, ◌≤◌, nat_le, if◌then◌else◌, List, ◌++◌, length, take, Option}
 use Rattle.std.specs.Io.KnownBytes.{Consumes, Appends}
-use Rattle.ix_io.specs.declared.transfer.Input.{Input}
-use Rattle.ix_io.specs.declared.transfer.Input.TheVariants.{All, TooLarge}
+use Rattle.ix_io.specs.declared.transfer.Intake.{Intake}
+use Rattle.ix_io.specs.declared.transfer.Intake.TheVariants.{All, TooLarge}
 
 -- all the bytes, where they are within the limit
-abbrev pub input_of : ℕ → List ℕ → Input
-input_of limit bytes = if nat_le (length bytes) limit then All bytes else TooLarge
+abbrev pub intake_of : ℕ → List ℕ → Intake
+intake_of limit bytes = if nat_le (length bytes) limit then All bytes else TooLarge
 
 -- an input that was read whole is within the limit
-abbrev pub IsWithin : ℕ → Input → Type 0
+abbrev pub IsWithin : ℕ → Intake → Type 0
 IsWithin limit (All bytes) = length bytes ≤ limit
 IsWithin limit TooLarge = Unit {0}
 

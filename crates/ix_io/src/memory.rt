@@ -1,17 +1,18 @@
 //! A source and a sink in memory, which fail at calls that are chosen beforehand.
-ghost use Rattle.std.specs.Prelude.{◌≡◌, ◌↔◌, ◌<◌, ◌≤◌, ◌++◌, [], Some, min, length, take, drop, IfOk, OnOk, OnErr, IsErr, IsErrOf, Contains};
+ghost use Rattle.std.specs.Prelude.{◌≡◌, ◌↔◌, ◌<◌, ◌≤◌, ◌++◌, [], Some, min, length, take, drop, is_err, IfOk, OnErr, IsErr, IsErrOf, Contains};
 ghost use Rattle.std.specs.Io.KnownBytes.{Consumes, Appends, Keeps, IsAtEnd};
-ghost use Rattle.ix_types.specs.Count.{Rose};
-ghost use Rattle.ix_io.specs.Memory.{next_number};
+ghost use Rattle.ix_types.specs.Count.{CountsWhere, counted};
+ghost use Rattle.ix_io.specs.Failures.{sink_failed};
 
-use crate::outside::{Sink, SinkError, Source};
-use ix_types::{Failed, Seq};
+use crate::sink::{Sink, SinkError};
+use crate::source::Source;
+use ix_types::{Failed, Seq, count_up};
 use std::alloc::Global;
 use std::marker::Model;
 
 /// Gives the bytes of a list, at most `piece` in a read. The reads whose numbers, counted from 1,
 /// stand in `fails` fail, and no others. The counters stand still at the greatest `u64`.
-#[derive(Drop)]
+#[derive(Debug, Drop)]
 pub struct MemorySource {
     bytes: Seq<u8>,
     at: usize,
@@ -73,26 +74,24 @@ impl Source for MemorySource {
         ensures taken { IfOk result (λ n. Consumes (Some self.old.left) (Some self.new.left) (take n into.new)) }
         ensures end { IfOk result (λ n. n ≡ 0 → 0 < length into.new → IsAtEnd (Some self.new.left)) }
         ensures kept { OnErr result (Keeps (Some self.old.left) (Some self.new.left)) }
-        ensures no_fault { OnOk result (self.new.faults ≡ self.old.faults) }
-        ensures later { self.old.faults ≤ self.new.faults }
-        ensures failed { OnErr result (Rose self.old.faults self.new.faults) }
+        ensures cause { CountsWhere (is_err result) self.old.faults self.new.faults }
         // Exactly the chosen reads fail, and each other gives as much as it can.
-        ensures fails { IsErr result ↔ Contains self.old.fails (next_number self.old.calls) }
+        ensures fails { IsErr result ↔ Contains self.old.fails (counted self.old.calls) }
         ensures count { IfOk result (λ n.
             n ≡ min (min (length self.old.left) (length into.old)) self.old.piece) }
         ensures bytes { IfOk result (λ n. into.new ≡ take n self.old.left ++ drop n into.old) }
         ensures after_read { IfOk result (λ n. self.new ≡ record self.old {
           left = drop n self.old.left;
-          calls = next_number self.old.calls;
+          calls = counted self.old.calls;
         }) }
         ensures after_fault { OnErr result (self.new ≡ record self.old {
-          calls = next_number self.old.calls;
-          faults = next_number self.old.faults;
+          calls = counted self.old.calls;
+          faults = counted self.old.faults;
         }) }
     {
-        self.calls = self.calls.saturating_add(1);
+        self.calls = count_up(self.calls);
         if self.fails.as_slice().contains(&self.calls) {
-            self.faults = self.faults.saturating_add(1);
+            self.faults = count_up(self.faults);
             return Err(Failed);
         }
         let left = &self.bytes.as_slice()[self.at..];
@@ -106,7 +105,7 @@ impl Source for MemorySource {
 /// Keeps what is written, at most `piece` bytes of a write. The writes whose numbers, counted from 1,
 /// stand in `fails` fail, and no others. A write that ends for want of memory changes nothing and
 /// isn't counted. The counters stand still at the greatest `u64`.
-#[derive(Drop)]
+#[derive(Debug, Drop)]
 pub struct MemorySink {
     written: Vec<u8>,
     piece: usize,
@@ -166,27 +165,24 @@ impl Sink for MemorySink {
         ensures some { IfOk result (λ n. 0 < length bytes.now → 0 < n) }
         ensures grown { IfOk result (λ n. Appends (Some self.old.written) (Some self.new.written) (take n bytes.now)) }
         ensures kept { OnErr result (Keeps (Some self.old.written) (Some self.new.written)) }
-        ensures no_fault { OnOk result (self.new.faults ≡ self.old.faults) }
-        ensures later { self.old.faults ≤ self.new.faults }
-        ensures failed { IsErrOf result SinkError.Failed → Rose self.old.faults self.new.faults }
-        ensures memory { IsErrOf result SinkError.Memory → self.new.faults ≡ self.old.faults }
+        ensures cause { CountsWhere (sink_failed result) self.old.faults self.new.faults }
         // Exactly the chosen writes fail, and each other takes as much as it can.
-        ensures fails { IsErrOf result SinkError.Failed ↔ Contains self.old.fails (next_number self.old.calls) }
+        ensures fails { IsErrOf result SinkError.Failed ↔ Contains self.old.fails (counted self.old.calls) }
         ensures count { IfOk result (λ n. n ≡ min (length bytes.now) self.old.piece) }
         ensures after_write { IfOk result (λ n. self.new ≡ record self.old {
           written = self.old.written ++ take n bytes.now;
-          calls = next_number self.old.calls;
+          calls = counted self.old.calls;
         }) }
         ensures after_fault { IsErrOf result SinkError.Failed → self.new ≡ record self.old {
-          calls = next_number self.old.calls;
-          faults = next_number self.old.faults;
+          calls = counted self.old.calls;
+          faults = counted self.old.faults;
         } }
         ensures after_memory { IsErrOf result SinkError.Memory → self.new ≡ self.old }
     {
-        let call = self.calls.saturating_add(1);
+        let call = count_up(self.calls);
         if self.fails.as_slice().contains(&call) {
             self.calls = call;
-            self.faults = self.faults.saturating_add(1);
+            self.faults = count_up(self.faults);
             return Err(SinkError::Failed);
         }
         let taken = bytes.len().min(self.piece);

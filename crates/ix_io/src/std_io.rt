@@ -1,11 +1,12 @@
 //! std's readers and writers as sources and sinks.
-ghost use Rattle.std.specs.Prelude.{◌≡◌, ◌<◌, ◌≤◌, length, take, IfOk, OnOk, OnErr, IsErrOf};
+ghost use Rattle.std.specs.Prelude.{◌≡◌, ◌<◌, ◌≤◌, length, take, is_err, IfOk, OnErr, IsErrOf};
 ghost use Rattle.std.specs.Io.KnownBytes.{Consumes, Appends, Keeps, IsAtEnd};
-ghost use Rattle.ix_types.specs.Count.{Rose};
-ghost use Rattle.ix_io.specs.Memory.{next_number};
+ghost use Rattle.ix_types.specs.Count.{CountsWhere, counted};
+ghost use Rattle.ix_io.specs.Failures.{sink_failed};
 
-use crate::outside::{Sink, SinkError, Source};
-use ix_types::Failed;
+use crate::sink::{Sink, SinkError};
+use crate::source::Source;
+use ix_types::{Failed, count_up};
 use std::io::{ErrorKind, Read, Write};
 use std::marker::Model;
 
@@ -15,7 +16,7 @@ const TRIES: u32 = 100;
 /// Gives the bytes of a reader, and tells of them what the reader tells.
 /// A read that a signal interrupts is tried up to 100 times. The source fails exactly where the reader
 /// answers another error, or was interrupted each time.
-#[derive(Drop)]
+#[derive(Debug, Drop)]
 pub struct ReaderSource<R> {
     reader: R,
     faults: u64,
@@ -64,16 +65,14 @@ impl<R: Read> Source for ReaderSource<R> {
             Consumes (R.remaining self.old.reader) (R.remaining self.new.reader) (take n into.new)) }
         ensures end { IfOk result (λ n. n ≡ 0 → 0 < length into.new → IsAtEnd (R.remaining self.new.reader)) }
         ensures kept { OnErr result (Keeps (R.remaining self.old.reader) (R.remaining self.new.reader)) }
-        ensures no_fault { OnOk result (self.new.faults ≡ self.old.faults) }
-        ensures later { self.old.faults ≤ self.new.faults }
-        ensures failed { OnErr result (Rose self.old.faults self.new.faults) }
+        ensures cause { CountsWhere (is_err result) self.old.faults self.new.faults }
         // A failed read is counted once.
-        ensures next_count { OnErr result (self.new.faults ≡ next_number self.old.faults) }
+        ensures next_count { OnErr result (self.new.faults ≡ counted self.old.faults) }
     {
         match read_retrying(&mut self.reader, into) {
             Ok(taken) => Ok(taken),
             Err(Failed) => {
-                self.faults = self.faults.saturating_add(1);
+                self.faults = count_up(self.faults);
                 Err(Failed)
             }
         }
@@ -104,7 +103,7 @@ fn read_retrying<R: Read>(reader: &mut R, into: &mut [u8]) -> Result<usize, Fail
 /// Writes to a writer, and tells of what was written what the writer tells.
 /// A write that a signal interrupts is tried up to 100 times. The sink fails exactly where the writer
 /// answers another error, was interrupted each time, or takes nothing of a piece that isn't empty.
-#[derive(Drop)]
+#[derive(Debug, Drop)]
 pub struct WriterSink<W> {
     writer: W,
     faults: u64,
@@ -153,18 +152,15 @@ impl<W: Write> Sink for WriterSink<W> {
         ensures grown { IfOk result (λ n.
             Appends (W.contents self.old.writer) (W.contents self.new.writer) (take n bytes.now)) }
         ensures kept { OnErr result (Keeps (W.contents self.old.writer) (W.contents self.new.writer)) }
-        ensures no_fault { OnOk result (self.new.faults ≡ self.old.faults) }
-        ensures later { self.old.faults ≤ self.new.faults }
-        ensures failed { IsErrOf result SinkError.Failed → Rose self.old.faults self.new.faults }
-        ensures memory { IsErrOf result SinkError.Memory → self.new.faults ≡ self.old.faults }
+        ensures cause { CountsWhere (sink_failed result) self.old.faults self.new.faults }
         // A failed write is counted once, and none ends for want of memory.
-        ensures next_count { OnErr result (self.new.faults ≡ next_number self.old.faults) }
+        ensures next_count { OnErr result (self.new.faults ≡ counted self.old.faults) }
         ensures never_memory { OnErr result (IsErrOf result SinkError.Failed) }
     {
         match write_retrying(&mut self.writer, bytes) {
             Ok(taken) if taken > 0 || bytes.is_empty() => Ok(taken),
             _ => {
-                self.faults = self.faults.saturating_add(1);
+                self.faults = count_up(self.faults);
                 Err(SinkError::Failed)
             }
         }

@@ -1,4 +1,10 @@
-use crate::transfer::{Input, ReadError, read_all, write_all};
+//! What no clause says, and what the clauses come to for each source and sink.
+ghost use Rattle.std.specs.Prelude.{◌≡◌, ◌-◌, ◌^◌, ◌<◌, ◌++◌, IfOk, IfSome, OnOk, Some};
+ghost use Rattle.ix_types.specs.Count.{CountsWhere};
+ghost use Rattle.ix_io.specs.Failures.{read_failed, sink_failed};
+ghost use Rattle.ix_io.specs.Transfer.{intake_of};
+
+use crate::transfer::{Intake, ReadError, read_all, write_all};
 use crate::{MemorySink, MemorySource, ReaderSource, Sink, SinkError, Source, WriterSink};
 use ix_types::{Failed, Seq};
 use std::alloc::{AllocError, Global};
@@ -6,25 +12,27 @@ use std::io;
 use std::io::{ErrorKind, Read, Write};
 use std::test::Fail;
 
-fn seq<T: Copy>(alloc: Global, items: &[T]) -> Result<Seq<T>, AllocError> {
-    Ok(Seq::of(Vec::from_slice(alloc, items)?))
-}
-
-// Interrupted at its first call, out of order at its second, and then all there is.
+/// A reader or a writer that is interrupted at each of its first calls, as many as said, fails at the
+/// call after them, where it is broken, and at all others does what the one within does.
 #[derive(Drop)]
 struct Faulty<T> {
     inner: T,
+    interrupted: u32,
+    is_broken: bool,
     calls: u32,
 }
 
 impl<T> Faulty<T> {
     fn stop(&mut self) -> io::Result<()> {
         self.calls = self.calls.saturating_add(1);
-        match self.calls {
-            1 => Err(io::Error::new(ErrorKind::Interrupted, "interrupted")),
-            2 => Err(io::Error::new(ErrorKind::Other, "out of order")),
-            _ => Ok(()),
+        if self.calls <= self.interrupted {
+            return Err(io::Error::new(ErrorKind::Interrupted, "interrupted"));
         }
+        if self.is_broken {
+            self.is_broken = false;
+            return Err(io::Error::new(ErrorKind::Other, "out of order"));
+        }
+        Ok(())
     }
 }
 
@@ -46,207 +54,248 @@ impl<W: Write> Write for Faulty<W> {
     }
 }
 
-// Interrupted at each of its first calls, as many as said, and then all there is.
-#[derive(Drop)]
-struct Interrupted<T> {
-    inner: T,
-    times: u32,
+/// How the outside stands, and what comes of the first call: whether it succeeds, and how often the outside is called.
+#[derive(Clone, Copy)]
+struct Case {
+    interrupted: u32,
+    is_broken: bool,
+    succeeds: bool,
     calls: u32,
 }
 
-impl<T> Interrupted<T> {
-    fn stop(&mut self) -> io::Result<()> {
-        self.calls = self.calls.saturating_add(1);
-        if self.calls <= self.times {
-            return Err(io::Error::new(ErrorKind::Interrupted, "interrupted"));
-        }
-        Ok(())
+fn when(interrupted: u32, is_broken: bool, succeeds: bool, calls: u32) -> Case {
+    Case {
+        interrupted,
+        is_broken,
+        succeeds,
+        calls,
     }
 }
 
-impl<R: Read> Read for Interrupted<R> {
-    fn read(&mut self, buf: &mut [u8]) -> io::Result<usize> {
-        self.stop()?;
-        self.inner.read(buf)
+/// Something interrupted and broken as the case says.
+fn over<T>(inner: T, case: Case) -> Faulty<T> {
+    Faulty {
+        inner,
+        interrupted: case.interrupted,
+        is_broken: case.is_broken,
+        calls: 0,
     }
 }
 
-impl<W: Write> Write for Interrupted<W> {
-    fn write(&mut self, buf: &[u8]) -> io::Result<usize> {
-        self.stop()?;
-        self.inner.write(buf)
+/// Whether a read of two bytes gives these.
+fn gives<S: Source>(source: &mut S, bytes: &[u8]) -> bool {
+    let mut into = [0u8; 2];
+    match source.read(&mut into) {
+        Ok(taken) => &into[..taken] == bytes,
+        Err(Failed) => false,
     }
+}
 
-    fn flush(&mut self) -> io::Result<()> {
-        self.inner.flush()
+/// Whether a read fails.
+fn fails<S: Source>(source: &mut S) -> bool {
+    source.read(&mut [0u8; 2]) == Err(Failed)
+}
+
+/// Whether a write takes so many bytes, or fails where none are said.
+fn takes<K: Sink>(sink: &mut K, bytes: &[u8], count: Option<usize>) -> bool {
+    match sink.write(bytes) {
+        Ok(taken) => count == Some(taken),
+        Err(error) => error == SinkError::Failed && count.is_none(),
     }
+}
+
+fn seq<T: Copy>(alloc: Global, items: &[T]) -> Result<Seq<T>, AllocError> {
+    Ok(Seq::of(Vec::from_slice(alloc, items)?))
+}
+
+/// A source of four bytes, of which a read gives at most so many, and the read of that number fails.
+fn abcd(alloc: Global, piece: u8, failing: u64) -> Result<MemorySource, AllocError> {
+    let fails_at = seq(alloc, &[failing])?;
+    Ok(MemorySource::new(seq(alloc, b"abcd")?, usize::from(piece).max(1), fails_at))
+}
+
+/// An empty sink, of which a write takes at most so many bytes, and the writes of these numbers fail.
+fn sink(alloc: Global, piece: u8, failing: &[u64]) -> Result<MemorySink, AllocError> {
+    Ok(MemorySink::new(alloc, usize::from(piece).max(1), seq(alloc, failing)?))
 }
 
 #[test]
 fn a_memory_source_gives_pieces_and_fails_where_chosen(rt: HostRuntime) -> Result<(), Fail> {
-    let alloc = rt.alloc();
-    let mut source = MemorySource::new(seq(alloc, b"abc")?, 2, seq(alloc, &[2u64])?);
-    let mut into = [0u8; 4];
-    assert_eq!(rt; source.read(&mut into), Ok(2));
-    assert_eq!(rt; into, [b'a', b'b', 0, 0]);
-    assert_eq!(rt; source.read(&mut into), Err(Failed));
-    assert_eq!(rt; source.left(), b"c".as_slice());
-    assert_eq!(rt; source.faults(), 1);
-    assert_eq!(rt; source.read(&mut into[..0]), Ok(0));
-    assert_eq!(rt; source.read(&mut into), Ok(1));
-    assert_eq!(rt; source.read(&mut into), Ok(0));
+    let mut source = abcd(rt.alloc(), 1, 2)?;
+    assert!(rt; gives(&mut source, b"a"));
+    assert!(rt; fails(&mut source));
+    assert!(rt; gives(&mut source, b"b"));
+    assert_eq!(rt; source.left(), b"cd".as_slice());
     assert_eq!(rt; source.faults(), 1);
     Ok(())
 }
 
 #[test]
 fn a_memory_sink_takes_pieces_and_fails_where_chosen(rt: HostRuntime) -> Result<(), Fail> {
-    let alloc = rt.alloc();
-    let mut sink = MemorySink::new(alloc, 1, seq(alloc, &[2u64, 4])?);
-    for (want, written) in [
-        (Ok(1), b"a".as_slice()),
-        (Err(SinkError::Failed), b"a".as_slice()),
-        (Ok(1), b"aa".as_slice()),
-        (Err(SinkError::Failed), b"aa".as_slice()),
-        (Ok(1), b"aaa".as_slice()),
-    ] {
-        assert_eq!(rt; sink.write(b"abc"), want);
-        assert_eq!(rt; sink.written(), written);
-    }
-    assert_eq!(rt; sink.write(b""), Ok(0));
+    let mut sink = sink(rt.alloc(), 1, &[2, 4])?;
+    assert!(rt; takes(&mut sink, b"abc", Some(1)));
+    assert!(rt; takes(&mut sink, b"bc", None));
+    assert!(rt; takes(&mut sink, b"bc", Some(1)));
+    assert!(rt; takes(&mut sink, b"c", None));
+    assert!(rt; takes(&mut sink, b"", Some(0)));
+    assert_eq!(rt; sink.written(), b"ab".as_slice());
     assert_eq!(rt; sink.faults(), 2);
     Ok(())
 }
 
-#[test]
-fn a_reader_is_a_source(rt: HostRuntime) -> Result<(), Fail> {
-    let mut source = ReaderSource::new(Faulty {
-        inner: b"abc".as_slice(),
-        calls: 0,
-    });
-    let mut into = [0u8; 2];
-    assert_eq!(rt; source.read(&mut into), Err(Failed));
-    assert_eq!(rt; source.faults(), 1);
-    assert_eq!(rt; source.read(&mut into), Ok(2));
-    assert_eq!(rt; into, *b"ab");
-    assert_eq!(rt; source.read(&mut into), Ok(1));
-    assert_eq!(rt; source.read(&mut into), Ok(0));
-    let reader = source.into_inner();
-    assert_eq!(rt; reader.calls, 5);
-    Ok(())
+/// Whether the first read of a reader is as the case says.
+fn reads_as(case: Case) -> bool {
+    let mut source = ReaderSource::new(over(b"abc".as_slice(), case));
+    let is_right = if case.succeeds {
+        gives(&mut source, b"ab")
+    } else {
+        fails(&mut source)
+    };
+    is_right
+        && source.faults() == u64::from(!case.succeeds)
+        && source.into_inner().calls == case.calls
+}
+
+/// Whether the first write to a writer is as the case says.
+fn writes_as(alloc: Global, case: Case) -> bool {
+    let count = if case.succeeds { Some(2) } else { None };
+    let mut sink = WriterSink::new(over(Vec::new(alloc), case));
+    let is_right = takes(&mut sink, b"ab", count);
+    let faults = sink.faults();
+    let writer = sink.into_inner();
+    is_right
+        && faults == u64::from(!case.succeeds)
+        && writer.calls == case.calls
+        && writer.inner.len() == count.unwrap_or(0)
 }
 
 #[test]
-fn a_writer_is_a_sink(rt: HostRuntime) -> Result<(), Fail> {
-    let alloc = rt.alloc();
-    let mut sink = WriterSink::new(Faulty {
-        inner: Vec::new(alloc),
-        calls: 0,
-    });
-    assert_eq!(rt; sink.write(b"ab"), Err(SinkError::Failed));
-    assert_eq!(rt; sink.faults(), 1);
-    assert_eq!(rt; sink.write(b"ab"), Ok(2));
-    assert_eq!(rt; sink.write(b""), Ok(0));
-    assert_eq!(rt; sink.into_inner().inner.as_slice(), b"ab".as_slice());
-    let mut room = [0u8; 1];
-    let mut full = WriterSink::new(room.as_mut_slice());
-    assert_eq!(rt; full.write(b"ab"), Ok(1));
-    assert_eq!(rt; full.write(b"b"), Err(SinkError::Failed));
-    assert_eq!(rt; full.faults(), 1);
-    Ok(())
-}
-
-#[test]
-fn an_interrupted_read_is_tried_a_hundred_times(rt: HostRuntime) -> Result<(), Fail> {
-    // How often a call is interrupted, the answer, what was read, and how many reads failed.
-    for (times, want, taken, faults) in [
-        (99, Ok(2), *b"ab", 0),
-        (100, Err(Failed), [0u8; 2], 1),
-        (u32::MAX, Err(Failed), [0u8; 2], 1),
+fn adapters_fail_where_std_fails_and_try_an_interrupted_call_a_hundred_times(rt: HostRuntime) {
+    for case in [
+        when(0, false, true, 1),
+        when(0, true, false, 1),
+        when(1, false, true, 2),
+        when(1, true, false, 2),
+        when(99, false, true, 100),
+        when(100, false, false, 100),
+        when(u32::MAX, false, false, 100),
     ] {
-        let mut source = ReaderSource::new(Interrupted {
-            inner: b"abc".as_slice(),
-            times,
-            calls: 0,
-        });
-        let mut into = [0u8; 2];
-        assert_eq!(rt; source.read(&mut into), want, "at {times}");
-        assert_eq!(rt; into, taken, "at {times}");
-        assert_eq!(rt; source.faults(), faults, "at {times}");
-        assert_eq!(rt; source.into_inner().calls, 100, "at {times}");
+        let times = case.interrupted;
+        assert!(rt; reads_as(case), "a read, interrupted {times} times");
+        assert!(rt;
+            writes_as(rt.alloc(), case),
+            "a write, interrupted {times} times"
+        );
     }
-    Ok(())
 }
 
 #[test]
-fn an_interrupted_write_is_tried_a_hundred_times(rt: HostRuntime) -> Result<(), Fail> {
-    let alloc = rt.alloc();
-    // How often a call is interrupted, the answer, what was written, and how many writes failed.
-    for (times, want, written, faults) in [
-        (99, Ok(2), b"ab".as_slice(), 0),
-        (100, Err(SinkError::Failed), b"".as_slice(), 1),
-        (u32::MAX, Err(SinkError::Failed), b"".as_slice(), 1),
-    ] {
-        let mut sink = WriterSink::new(Interrupted {
-            inner: Vec::new(alloc),
-            times,
-            calls: 0,
-        });
-        assert_eq!(rt; sink.write(b"ab"), want, "at {times}");
-        assert_eq!(rt; sink.faults(), faults, "at {times}");
-        let writer = sink.into_inner();
-        assert_eq!(rt; writer.calls, 100, "at {times}");
-        assert_eq!(rt; writer.inner.as_slice(), written, "at {times}");
-    }
-    Ok(())
+fn adapters_go_on_after_a_failure(rt: HostRuntime) {
+    let broken = when(0, true, false, 1);
+    let mut source = ReaderSource::new(over(b"abc".as_slice(), broken));
+    assert!(rt; fails(&mut source));
+    assert!(rt; gives(&mut source, b"ab"));
+    assert!(rt; gives(&mut source, b"c"));
+    assert!(rt; gives(&mut source, b""));
+    let mut room = [0u8; 3];
+    let mut sink = WriterSink::new(over(room.as_mut_slice(), broken));
+    assert!(rt; takes(&mut sink, b"abcd", None));
+    assert!(rt; takes(&mut sink, b"abcd", Some(3)));
+    assert!(rt; takes(&mut sink, b"", Some(0)));
+    assert!(rt; takes(&mut sink, b"d", None));
+    assert_eq!(rt; sink.faults(), 2);
+}
+
+/// A source in memory tells its bytes, and counts its faults.
+fn read_memory(alloc: Global, source: &mut MemorySource, limit: usize) -> Result<Intake, ReadError>
+    requires { limit < 2 ^ 64 - 1 }
+    ensures intake { IfOk result (λ intake. intake ≡ intake_of limit source.old.left) }
+    ensures cause { CountsWhere (read_failed result) source.old.faults source.new.faults }
+{
+    read_all(alloc, source, limit)
+}
+
+/// A source over a reader tells what the reader tells.
+fn read_reader<R: Read>(alloc: Global, source: &mut ReaderSource<R>) -> Result<Intake, ReadError>
+    ensures intake { IfOk result (λ intake. IfSome (R.remaining source.old.reader) (λ bytes. intake ≡ intake_of 9 bytes)) }
+    ensures cause { CountsWhere (read_failed result) source.old.faults source.new.faults }
+{
+    read_all(alloc, source, 9)
+}
+
+/// A sink in memory tells its contents, and counts its faults.
+fn write_memory(sink: &mut MemorySink, bytes: &[u8]) -> Result<(), SinkError>
+    ensures written { OnOk result (sink.new.written ≡ sink.old.written ++ bytes.now) }
+    ensures cause { CountsWhere (sink_failed result) sink.old.faults sink.new.faults }
+{
+    write_all(sink, bytes)
+}
+
+/// A sink over a writer tells what the writer tells.
+fn write_writer<W: Write>(sink: &mut WriterSink<W>, bytes: &[u8]) -> Result<(), SinkError>
+    ensures written { OnOk result (IfSome (W.contents sink.old.writer) (λ old. W.contents sink.new.writer ≡ Some (old ++ bytes.now))) }
+    ensures cause { CountsWhere (sink_failed result) sink.old.faults sink.new.faults }
+{
+    write_all(sink, bytes)
 }
 
 #[test]
-fn reading_ends_at_the_end_or_one_byte_past_the_limit(rt: HostRuntime) -> Result<(), Fail> {
-    let alloc = rt.alloc();
-    // The limit, whether all was read, and how many bytes are left then.
-    for (limit, whole, left) in [
-        (9, true, 0),
-        (4, true, 0),
-        (3, false, 0),
-        (1, false, 2),
-        (0, false, 3),
-    ] {
-        let mut source = MemorySource::new(seq(alloc, b"abcd")?, 1, seq(alloc, &[])?);
-        match read_all(alloc, &mut source, limit)? {
-            Input::All(bytes) => {
-                assert!(rt; whole, "at {limit}");
-                assert_eq!(rt; bytes.as_slice(), b"abcd".as_slice());
-            }
-            Input::TooLarge => assert!(rt; !whole, "at {limit}"),
-        }
-        assert_eq!(rt; source.left().len(), left, "at {limit}");
+fn a_transfer_moves_all_bytes(rt: HostRuntime) {
+    let mut source = ReaderSource::new(b"abcd".as_slice());
+    let mut sink = WriterSink::new(Vec::new(rt.alloc()));
+    if let Ok(Intake::All(bytes)) = read_reader(rt.alloc(), &mut source) {
+        assert_eq!(rt; write_writer(&mut sink, bytes.as_slice()), Ok(()));
     }
-    Ok(())
+    assert_eq!(rt; sink.into_inner().as_slice(), b"abcd".as_slice());
+}
+
+/// Reads four bytes one by one, and answers whether they come whole within a limit, and how many are left.
+fn read_within(alloc: Global, limit: u8) -> Result<(bool, usize), ReadError> {
+    let Ok(mut source) = abcd(alloc, 1, 0) else {
+        return Err(ReadError::Memory);
+    };
+    let is_whole = match read_memory(alloc, &mut source, limit.into())? {
+        Intake::All(bytes) => bytes.as_slice() == b"abcd".as_slice(),
+        Intake::TooLarge => false,
+    };
+    Ok((is_whole, source.left().len()))
+}
+
+#[test]
+fn reading_ends_at_the_end_or_one_byte_past_the_limit(rt: HostRuntime) {
+    assert_eq!(rt; read_within(rt.alloc(), 9), Ok((true, 0)));
+    assert_eq!(rt; read_within(rt.alloc(), 4), Ok((true, 0)));
+    assert_eq!(rt; read_within(rt.alloc(), 3), Ok((false, 0)));
+    assert_eq!(rt; read_within(rt.alloc(), 1), Ok((false, 2)));
+    assert_eq!(rt; read_within(rt.alloc(), 0), Ok((false, 3)));
 }
 
 #[test]
 fn reading_ends_at_the_first_failed_read(rt: HostRuntime) -> Result<(), Fail> {
-    let alloc = rt.alloc();
-    let mut source = MemorySource::new(seq(alloc, b"abcd")?, 1, seq(alloc, &[3u64])?);
-    match read_all(alloc, &mut source, 9) {
-        Err(fault) => assert_eq!(rt; fault, ReadError::Failed),
-        Ok(_) => assert!(rt; false),
-    }
+    let mut source = abcd(rt.alloc(), 1, 3)?;
+    assert!(rt; read_all(rt.alloc(), &mut source, 9) == Err(ReadError::Failed));
     assert_eq!(rt; source.left(), b"cd".as_slice());
     Ok(())
 }
 
 #[test]
 fn a_sink_takes_ten_bytes_and_fails(rt: HostRuntime) -> Result<(), Fail> {
-    let alloc = rt.alloc();
-    let mut sink = MemorySink::new(alloc, 10, seq(alloc, &[2u64])?);
+    let mut sink = sink(rt.alloc(), 10, &[2])?;
     assert_eq!(rt;
-        write_all(&mut sink, b"0 publish ab"),
+        write_memory(&mut sink, b"0 publish ab"),
         Err(SinkError::Failed)
     );
     assert_eq!(rt; sink.written(), b"0 publish ".as_slice());
-    assert_eq!(rt; write_all(&mut sink, b"0 publish ab"), Ok(()));
-    assert_eq!(rt; sink.written(), b"0 publish 0 publish ab".as_slice());
+    assert_eq!(rt; write_memory(&mut sink, b"cd"), Ok(()));
+    assert_eq!(rt; sink.written(), b"0 publish cd".as_slice());
+    Ok(())
+}
+
+#[test]
+fn errors_have_their_texts(rt: HostRuntime) -> Result<(), Fail> {
+    let [read, memory] = [ReadError::Failed, ReadError::Memory];
+    let [sink, wanting] = [SinkError::Failed, SinkError::Memory];
+    let text = format!(in rt.alloc(); "{read} {memory} {sink} {wanting}")?;
+    assert_eq!(rt; text.as_str(), "failed memory failed memory");
     Ok(())
 }

@@ -1,19 +1,22 @@
 //! Reading to the end and writing all, over any source and any sink.
 ghost use Rattle.std.specs.Prelude.{MatchBool, vec_len, [], ◌≡◌, ◌+◌, ◌-◌, ◌^◌, ◌<◌, ◌≤◌, ◌++◌, Some, length, drop, List, ℕ, IfOk, OnOk, OnErr, IfSome, IsErrOf};
 ghost use Rattle.std.specs.Io.KnownBytes.{Consumes, Appends, IsAtEnd};
-ghost use Rattle.ix_types.specs.Count.{Rose};
-ghost use Rattle.ix_io.specs.Transfer.{input_of, IsWithin, TakesAtMost, AppendsPart, Gains};
+ghost use Rattle.ix_types.specs.Count.{CountsWhere};
+ghost use Rattle.ix_io.specs.Failures.{read_failed, sink_failed};
+ghost use Rattle.ix_io.specs.Transfer.{intake_of, IsWithin, TakesAtMost, AppendsPart, Gains};
 
-use crate::outside::{Sink, SinkError, Source};
+use crate::sink::{Sink, SinkError};
+use crate::source::Source;
 use ix_types::Seq;
 use std::alloc::{AllocError, Global};
+use thiserror::Error;
 
 /// The most bytes that are asked of a source at once.
 const CHUNK: usize = 65_536;
 
 /// What a source gave up to a limit.
-#[derive(Drop)]
-pub enum Input {
+#[derive(Debug, PartialEq, Drop)]
+pub enum Intake {
     /// All its bytes.
     All(Seq<u8>),
     /// It holds more than the limit.
@@ -21,27 +24,26 @@ pub enum Input {
 }
 
 /// Why a source wasn't read to the end.
-#[derive(Clone, Copy, Debug, PartialEq, Eq)]
+#[derive(Clone, Copy, Debug, PartialEq, Eq, Error)]
 pub enum ReadError {
     /// A read failed.
+    #[error("failed")]
     Failed,
     /// Memory was wanting.
+    #[error("memory")]
     Memory,
 }
 
 /// Reads to the end, but takes at most one byte more than the limit. It ends at the first failed read.
-pub fn read_all<S: Source>(alloc: Global, source: &mut S, limit: usize) -> Result<Input, ReadError>
+pub fn read_all<S: Source>(alloc: Global, source: &mut S, limit: usize) -> Result<Intake, ReadError>
     requires { limit < 2 ^ 64 - 1 }
-    ensures input { IfOk result (λ input. IfSome (S.remaining source.old) (λ bytes.
-        input ≡ input_of limit bytes)) }
+    ensures intake { IfOk result (λ intake. IfSome (S.remaining source.old) (λ bytes.
+        intake ≡ intake_of limit bytes)) }
     ensures rest { OnOk result (IfSome (S.remaining source.old) (λ bytes.
         S.remaining source.new ≡ Some (drop (limit + 1) bytes))) }
     ensures within { IfOk result (IsWithin limit) }
     ensures front { TakesAtMost (S.remaining source.old) (S.remaining source.new) (limit + 1) }
-    ensures no_fault { OnOk result (S.faults source.new ≡ S.faults source.old) }
-    ensures later { S.faults source.old ≤ S.faults source.new }
-    ensures failed { IsErrOf result ReadError.Failed → Rose (S.faults source.old) (S.faults source.new) }
-    ensures memory { IsErrOf result ReadError.Memory → S.faults source.new ≡ S.faults source.old }
+    ensures cause { CountsWhere (read_failed result) (S.faults source.old) (S.faults source.new) }
 {
     let mut chunk = match zeros(alloc, CHUNK) {
         Ok(chunk) => chunk,
@@ -49,9 +51,9 @@ pub fn read_all<S: Source>(alloc: Global, source: &mut S, limit: usize) -> Resul
     };
     let mut bytes = Vec::new(alloc);
     if read_up_to(source, &mut chunk, &mut bytes, limit)? {
-        Ok(Input::All(Seq::of(bytes)))
+        Ok(Intake::All(Seq::of(bytes)))
     } else {
-        Ok(Input::TooLarge)
+        Ok(Intake::TooLarge)
     }
 }
 
@@ -76,10 +78,7 @@ fn read_up_to<S: Source>(
         (IsAtEnd (S.remaining source.new) × (length bytes.new.items ≤ limit))
         (length bytes.new.items ≡ limit + 1)) }
     ensures front { OnErr result (TakesAtMost (S.remaining source.old) (S.remaining source.new) (limit + 1)) }
-    ensures no_fault { OnOk result (S.faults source.new ≡ S.faults source.old) }
-    ensures later { S.faults source.old ≤ S.faults source.new }
-    ensures failed { IsErrOf result ReadError.Failed → Rose (S.faults source.old) (S.faults source.new) }
-    ensures memory { IsErrOf result ReadError.Memory → S.faults source.new ≡ S.faults source.old }
+    ensures cause { CountsWhere (read_failed result) (S.faults source.old) (S.faults source.new) }
 {
     while bytes.len() <= limit {
         let room = chunk.len().min(limit + 1 - bytes.len());
@@ -102,10 +101,7 @@ fn read_piece<S: Source>(
     ensures room { IfOk result (λ n. n ≤ length chunk.old) }
     ensures end { IfOk result (λ n. n ≡ 0 → IsAtEnd (S.remaining source.new)) }
     ensures front { OnErr result (TakesAtMost (S.remaining source.old) (S.remaining source.new) (length chunk.old)) }
-    ensures no_fault { OnOk result (S.faults source.new ≡ S.faults source.old) }
-    ensures later { S.faults source.old ≤ S.faults source.new }
-    ensures failed { IsErrOf result ReadError.Failed → Rose (S.faults source.old) (S.faults source.new) }
-    ensures memory { IsErrOf result ReadError.Memory → S.faults source.new ≡ S.faults source.old }
+    ensures cause { CountsWhere (read_failed result) (S.faults source.old) (S.faults source.new) }
 {
     match source.read(chunk) {
         Ok(taken) => match bytes.extend_from_slice(&chunk[..taken]) {
@@ -120,10 +116,7 @@ fn read_piece<S: Source>(
 pub fn write_all<K: Sink>(sink: &mut K, bytes: &[u8]) -> Result<(), SinkError>
     ensures written { OnOk result (Appends (K.contents sink.old) (K.contents sink.new) bytes.now) }
     ensures front { OnErr result (AppendsPart (K.contents sink.old) (K.contents sink.new) bytes.now) }
-    ensures no_fault { OnOk result (K.faults sink.new ≡ K.faults sink.old) }
-    ensures later { K.faults sink.old ≤ K.faults sink.new }
-    ensures failed { IsErrOf result SinkError.Failed → Rose (K.faults sink.old) (K.faults sink.new) }
-    ensures memory { IsErrOf result SinkError.Memory → K.faults sink.new ≡ K.faults sink.old }
+    ensures cause { CountsWhere (sink_failed result) (K.faults sink.old) (K.faults sink.new) }
 {
     let mut rest = bytes;
     while !rest.is_empty() {

@@ -2,9 +2,9 @@ use Rattle.std.proofs.Common.{◌<◌, ap, sym, ◌∙◌, subst, length, arith,
 use Rattle.ix_dir.specs.Crash.{LeavesOf, IsSettled, value_for}
 use Rattle.ix_dir.specs.Images.{values_of}
 use Rattle.ix_dir.specs.Moves.{area_after}
-use Rattle.ix_dir.specs.PlacedValues.{left_with}
-use Rattle.ix_dir.proofs.Left.{leaves_none, leaves_step, left_settled, left_others, left_state, names_distinct, IsDistinctNames}
-use Rattle.ix_dir.proofs.Values.{take_full}
+use Rattle.ix_dir.specs.ValuesByNumber.{left_with}
+use Rattle.ix_dir.proofs.WhatACrashLeaves.{leaves_none, leaves_step, left_settled, left_others, left_state, names_distinct, IsDistinctNames}
+use Rattle.ix_dir.proofs.ValuesAfterAMove.{take_full}
 use Rattle.ix_dir.proofs.crash.leave.Goals as goal
 
 pub loop-i-init : goal.loop-i-init

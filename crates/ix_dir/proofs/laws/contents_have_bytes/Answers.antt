@@ -1,4 +1,4 @@
-use Rattle.ix_dir.proofs.Possible.{get-contents_of}
+use Rattle.ix_dir.proofs.PickIsAnImage.{get-contents_of}
 use Rattle.ix_dir.proofs.laws.contents_have_bytes.Goals as goal
 
 pub returns : goal.returns

@@ -1,4 +1,4 @@
-use Rattle.ix_dir.proofs.Leaves.{images_stay}
+use Rattle.ix_dir.proofs.WhatAChangeLeaves.{images_stay}
 use Rattle.ix_dir.proofs.laws.earlier_images_stay.Goals as goal
 
 pub returns : goal.returns

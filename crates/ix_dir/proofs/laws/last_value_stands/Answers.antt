@@ -1,4 +1,4 @@
-use Rattle.ix_dir.proofs.Since.{last_stands}
+use Rattle.ix_dir.proofs.ValuesStood.{last_stands}
 use Rattle.ix_dir.proofs.laws.last_value_stands.Goals as goal
 
 pub returns : goal.returns

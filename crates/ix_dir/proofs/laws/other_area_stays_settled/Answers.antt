@@ -1,4 +1,4 @@
-use Rattle.ix_dir.proofs.ValuesAfter.{settled_renamed, settled_removed, settled_synced}
+use Rattle.ix_dir.proofs.ValuesAfterAChange.{settled_renamed, settled_removed, settled_synced}
 use Rattle.ix_dir.proofs.laws.other_area_stays_settled.Goals as goal
 
 pub returns-clause-renamed : goal.returns-clause-renamed

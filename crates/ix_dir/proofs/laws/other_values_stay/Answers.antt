@@ -1,4 +1,4 @@
-use Rattle.ix_dir.proofs.ValuesAfter.{other_renamed, other_removed, other_synced}
+use Rattle.ix_dir.proofs.ValuesAfterAChange.{other_renamed, other_removed, other_synced}
 use Rattle.ix_dir.proofs.laws.other_values_stay.Goals as goal
 
 pub returns-clause-renamed : goal.returns-clause-renamed

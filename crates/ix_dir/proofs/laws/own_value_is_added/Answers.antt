@@ -1,4 +1,4 @@
-use Rattle.ix_dir.proofs.ValuesAfter.{own_renamed, own_removed}
+use Rattle.ix_dir.proofs.ValuesAfterAChange.{own_renamed, own_removed}
 use Rattle.ix_dir.proofs.laws.own_value_is_added.Goals as goal
 
 pub returns-clause-renamed : goal.returns-clause-renamed

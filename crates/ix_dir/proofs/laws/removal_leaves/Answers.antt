@@ -1,4 +1,4 @@
-use Rattle.ix_dir.proofs.Leaves.{without}
+use Rattle.ix_dir.proofs.WhatAChangeLeaves.{without}
 use Rattle.ix_dir.proofs.laws.removal_leaves.Goals as goal
 
 pub returns : goal.returns

@@ -1,4 +1,4 @@
-use Rattle.ix_dir.proofs.Leaves.{renamed}
+use Rattle.ix_dir.proofs.WhatAChangeLeaves.{renamed}
 use Rattle.ix_dir.proofs.laws.rename_leaves.Goals as goal
 
 pub returns : goal.returns

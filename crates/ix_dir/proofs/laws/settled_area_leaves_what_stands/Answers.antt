@@ -1,4 +1,4 @@
-use Rattle.ix_dir.proofs.ValuesAfter.{settled_leaves}
+use Rattle.ix_dir.proofs.ValuesAfterAChange.{settled_leaves}
 use Rattle.ix_dir.proofs.laws.settled_area_leaves_what_stands.Goals as goal
 
 pub returns : goal.returns

@@ -1,4 +1,4 @@
-use Rattle.ix_dir.proofs.Leaves.{synced, settled as settled_after}
+use Rattle.ix_dir.proofs.WhatAChangeLeaves.{synced, settled as settled_after}
 use Rattle.ix_dir.proofs.laws.sync_leaves.Goals as goal
 
 pub returns-clause-areas : goal.returns-clause-areas

@@ -1,4 +1,4 @@
-use Rattle.ix_dir.proofs.Since.{synced_stands}
+use Rattle.ix_dir.proofs.ValuesStood.{synced_stands}
 use Rattle.ix_dir.proofs.laws.synced_value_stands.Goals as goal
 
 pub returns : goal.returns

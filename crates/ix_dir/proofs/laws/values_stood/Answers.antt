@@ -1,4 +1,4 @@
-use Rattle.ix_dir.proofs.Since.{all_stood}
+use Rattle.ix_dir.proofs.ValuesStood.{all_stood}
 use Rattle.ix_dir.proofs.laws.values_stood.Goals as goal
 
 pub returns : goal.returns

@@ -1,4 +1,4 @@
-use Rattle.ix_dir.proofs.ValuesKept.{stood_is_there}
+use Rattle.ix_dir.proofs.ValuesThatStoodStay.{stood_is_there}
 use Rattle.ix_dir.proofs.laws.values_that_stood_stay.Goals as goal
 
 pub returns : goal.returns

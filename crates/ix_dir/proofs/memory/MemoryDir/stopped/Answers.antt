@@ -2,7 +2,7 @@ use Rattle.std.proofs.Common.{◌≡◌, ap, sym, ◌∙◌, subst, refl}
 use Rattle.ix_dir.specs.declared.area.Area.TheVariants.{Units, Records}
 use Rattle.ix_dir.specs.Crash.{IsPicked, LeavesOf, names_since}
 use Rattle.ix_dir.specs.Moves.{area_after}
-use Rattle.ix_dir.proofs.Possible.{image_ok}
+use Rattle.ix_dir.proofs.PickIsAnImage.{image_ok}
 use Rattle.ix_dir.proofs.memory.MemoryDir.stopped.Goals as goal
 
 pub returns-clause-possible : goal.returns-clause-possible
