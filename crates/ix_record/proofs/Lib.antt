@@ -1,3 +1,5 @@
+pub mod Door
 pub mod Faults
+pub mod Fronts
 pub mod Grammar
 pub mod Readers

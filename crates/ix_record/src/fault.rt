@@ -5,25 +5,34 @@ ghost use Rattle.ix_record.specs.Fault.{record_error};
 
 use ix_wire::WireError;
 use std::alloc::{AllocError, AllocFailed};
+use thiserror::Error;
 
 /// The first fault of the bytes, from the left. A place is the number of bytes before it.
-#[derive(Clone, Copy, Debug, PartialEq, Eq)]
+#[derive(Clone, Copy, Debug, PartialEq, Eq, Error)]
 pub enum RecordError {
     /// The first four bytes are other than those of a record file.
+    #[error("not a record file")]
     BadMagic,
     /// Fewer bytes are left than a field needs.
+    #[error("bytes are missing")]
     Short,
     /// The field at `at` has a value that isn't allowed.
+    #[error("bad field at byte {at}")]
     BadField { at: u64 },
     /// The symbol, relation or occurrence at `at` isn't greater than the one before.
+    #[error("out of order at byte {at}")]
     OutOfOrder { at: u64 },
     /// The index at `at` is of no symbol.
+    #[error("bad index at byte {at}")]
     BadIndex { at: u64 },
     /// The roles at `at` lack one of a relation.
+    #[error("roles missing at byte {at}")]
     RolesMissing { at: u64 },
     /// Bytes are left from `at` on.
+    #[error("bytes are left from byte {at} on")]
     Trailing { at: u64 },
     /// Memory was wanting.
+    #[error("memory")]
     Memory,
 }
 

@@ -2,13 +2,13 @@
 ghost use Rattle.std.specs.Prelude.{◌≡◌, ◌⊎◌, IfOk, IfErr, Some, Ok, Err};
 ghost use Rattle.ix_record.specs.Gives.{Gives};
 ghost use Rattle.ix_record.specs.declared.value.RecordValue.{RecordValue};
-ghost use Rattle.ix_record.specs.Reading.{number_at, usr_at, name_at, magic_at, kind_at, lang_at, props_at, place_at, index_at, roles_at, relation_roles_at, symbol_at, relation_at, has_roles, symbols_at, relations_at, occurrence_at, occurrences_at, record_at, record_fault};
+ghost use Rattle.ix_record.specs.Reading.{number_at, usr_at, name_at, codegen_at, format_at, fields_at, kind_at, lang_at, props_at, coordinate_at, index_at, roles_at, relation_roles_at, symbol_at, relation_at, has_roles, symbols_at, relations_at, occurrence_at, occurrences_at, record_at, record_fault};
 ghost use Rattle.ix_record.specs.Spelling.{RecordSpelling};
 
 use crate::fault::RecordError;
 use crate::order::{occurrence_follows, relation_follows, symbol_follows};
-use crate::value::{MAGIC, Occurrence, RecordValue, Relation, Symbol};
-use ix_types::{Kind, Lang, Props, Roles, Seq, Text};
+use crate::value::{MAGIC_ONE, MAGIC_TWO, Occurrence, RecordValue, Relation, Symbol};
+use ix_types::{Format, Kind, Lang, Props, Roles, Seq, Text};
 use ix_wire::Cursor;
 use std::alloc::Global;
 
@@ -33,15 +33,29 @@ fn read_name(alloc: Global, cursor: &mut Cursor<'_>) -> Result<Text, RecordError
     Ok(cursor.text(alloc, true)?)
 }
 
-#[tactic(auto, unfolding(crate::specs::Reading::magic_at))]
-fn read_magic(cursor: &mut Cursor<'_>) -> Result<u32, RecordError>
-    ensures { Gives result cursor.new (magic_at cursor.old) }
+/// Reads the code generation name, which is no field of format One.
+#[tactic(auto, unfolding(crate::specs::Reading::codegen_at))]
+fn read_codegen(alloc: Global, format: Format, cursor: &mut Cursor<'_>) -> Result<Text, RecordError>
+    ensures { Gives result cursor.new (codegen_at format cursor.old) }
 {
-    let number = read_number(cursor)?;
-    if number == MAGIC {
-        Ok(number)
-    } else {
-        Err(RecordError::BadMagic)
+    match format {
+        Format::One => match Text::read_or_empty(alloc, &[]) {
+            Ok(codegen) => Ok(codegen),
+            Err(_) => Err(RecordError::Memory),
+        },
+        Format::Two => Ok(cursor.text(alloc, true)?),
+    }
+}
+
+/// Reads the magic, which is of the format.
+#[tactic(auto, unfolding(crate::specs::Reading::format_at))]
+fn read_format(cursor: &mut Cursor<'_>) -> Result<Format, RecordError>
+    ensures { Gives result cursor.new (format_at cursor.old) }
+{
+    match read_number(cursor)? {
+        MAGIC_ONE => Ok(Format::One),
+        MAGIC_TWO => Ok(Format::Two),
+        _ => Err(RecordError::BadMagic),
     }
 }
 
@@ -82,9 +96,9 @@ fn read_props(cursor: &mut Cursor<'_>) -> Result<Props, RecordError>
 }
 
 /// Reads a line or a column.
-#[tactic(auto, unfolding(crate::specs::Reading::place_at))]
-fn read_place(cursor: &mut Cursor<'_>) -> Result<u32, RecordError>
-    ensures { Gives result cursor.new (place_at cursor.old) }
+#[tactic(auto, unfolding(crate::specs::Reading::coordinate_at))]
+fn read_coordinate(cursor: &mut Cursor<'_>) -> Result<u32, RecordError>
+    ensures { Gives result cursor.new (coordinate_at cursor.old) }
 {
     let at = cursor.at();
     let place = read_number(cursor)?;
@@ -132,20 +146,26 @@ fn read_relation_roles(cursor: &mut Cursor<'_>) -> Result<Roles, RecordError>
 }
 
 #[tactic(auto, unfolding(crate::specs::Reading::symbol_at))]
-fn read_symbol(alloc: Global, cursor: &mut Cursor<'_>) -> Result<Symbol, RecordError>
-    ensures { Gives result cursor.new (symbol_at cursor.old) }
+fn read_symbol(
+    alloc: Global,
+    format: Format,
+    cursor: &mut Cursor<'_>,
+) -> Result<Symbol, RecordError>
+    ensures { Gives result cursor.new (symbol_at format cursor.old) }
 {
     let kind = read_kind(cursor)?;
     let lang = read_lang(cursor)?;
     let props = read_props(cursor)?;
     let usr = read_usr(alloc, cursor)?;
     let name = read_name(alloc, cursor)?;
+    let codegen = read_codegen(alloc, format, cursor)?;
     Ok(Symbol {
         kind,
         lang,
         props,
         usr,
         name,
+        codegen,
     })
 }
 
@@ -171,15 +191,16 @@ fn has_each(roles: Roles, relations: &[Relation]) -> bool
 #[tactic(auto, unfolding(crate::specs::Reading::symbols_at))]
 fn read_symbols(
     alloc: Global,
+    format: Format,
     cursor: &mut Cursor<'_>,
     count: u32,
 ) -> Result<Seq<Symbol>, RecordError>
-    ensures { Gives result cursor.new (symbols_at count cursor.old) }
+    ensures { Gives result cursor.new (symbols_at format count cursor.old) }
 {
     let mut symbols = Vec::new(alloc);
     for _ in 0..count {
         let at = cursor.at();
-        let symbol = read_symbol(alloc, cursor)?;
+        let symbol = read_symbol(alloc, format, cursor)?;
         if !symbol_follows(&symbols, &symbol) {
             return Err(RecordError::OutOfOrder { at });
         }
@@ -218,8 +239,8 @@ fn read_occurrence(
 ) -> Result<Occurrence, RecordError>
     ensures { Gives result cursor.new (occurrence_at symbols cursor.old) }
 {
-    let line = read_place(cursor)?;
-    let column = read_place(cursor)?;
+    let line = read_coordinate(cursor)?;
+    let column = read_coordinate(cursor)?;
     let symbol = read_index(cursor, symbols)?;
     let at = cursor.at();
     let roles = read_roles(cursor)?;
@@ -259,20 +280,29 @@ fn read_occurrences(
     Ok(Seq::of(occurrences))
 }
 
+#[tactic(auto, unfolding(crate::specs::Reading::fields_at))]
+fn read_fields(alloc: Global, cursor: &mut Cursor<'_>) -> Result<RecordValue, RecordError>
+    ensures { Gives result cursor.new (fields_at cursor.old) }
+{
+    let format = read_format(cursor)?;
+    let symbol_count = read_number(cursor)?;
+    let symbols = read_symbols(alloc, format, cursor, symbol_count)?;
+    let occurrence_count = read_number(cursor)?;
+    let occurrences = read_occurrences(alloc, cursor, symbol_count, occurrence_count)?;
+    Ok(RecordValue {
+        format,
+        symbols,
+        occurrences,
+    })
+}
+
 #[tactic(auto, unfolding(crate::specs::Reading::record_at))]
 fn read_record(alloc: Global, cursor: &mut Cursor<'_>) -> Result<RecordValue, RecordError>
     ensures { Gives result cursor.new (record_at cursor.old) }
 {
-    read_magic(cursor)?;
-    let symbol_count = read_number(cursor)?;
-    let symbols = read_symbols(alloc, cursor, symbol_count)?;
-    let occurrence_count = read_number(cursor)?;
-    let occurrences = read_occurrences(alloc, cursor, symbol_count, occurrence_count)?;
+    let value = read_fields(alloc, cursor)?;
     cursor.end()?;
-    Ok(RecordValue {
-        symbols,
-        occurrences,
-    })
+    Ok(value)
 }
 
 /// The value that the bytes spell, all of the bytes.

@@ -1,23 +1,43 @@
 //! Writes a record, field by field.
 ghost use Rattle.std.specs.Prelude.{◌≡◌, ◌<◌, ◌^◌, ◌++◌, length, All, OnOk, IfOk};
 ghost use Rattle.std.specs.List.{flat_map};
-ghost use Rattle.ix_record.specs.Spelling.{symbol_bytes, relation_bytes, occurrence_bytes, record_bytes, RecordSpelling};
+ghost use Rattle.ix_record.specs.Spelling.{magic_bytes, codegen_bytes, symbol_bytes, relation_bytes, occurrence_bytes, record_bytes, RecordSpelling};
 ghost use Rattle.ix_record.specs.Value.{IsValidRecord};
 
-use crate::value::{MAGIC, Occurrence, RecordValue, Relation, Symbol};
-use ix_types::{Memory, Seq};
+use crate::value::{MAGIC_ONE, MAGIC_TWO, Occurrence, RecordValue, Relation, Symbol};
+use ix_types::{Format, Memory, Seq, Text};
 use ix_wire::{put_text, put_u32};
 use std::alloc::Global;
 
+fn put_magic(out: &mut Vec<u8>, format: Format) -> Result<(), Memory>
+    ensures { OnOk result (out.new.items ≡ out.old.items ++ magic_bytes format) }
+{
+    match format {
+        Format::One => put_u32(out, MAGIC_ONE),
+        Format::Two => put_u32(out, MAGIC_TWO),
+    }
+}
+
+/// Writes the code generation name, which is no field of format One.
+fn put_codegen(out: &mut Vec<u8>, format: Format, codegen: &Text) -> Result<(), Memory>
+    ensures { OnOk result (out.new.items ≡ out.old.items ++ codegen_bytes format codegen.now) }
+{
+    match format {
+        Format::One => Ok(()),
+        Format::Two => put_text(out, codegen),
+    }
+}
+
 #[tactic(auto, unfolding(crate::specs::Spelling::symbol_bytes))]
-fn put_symbol(out: &mut Vec<u8>, symbol: &Symbol) -> Result<(), Memory>
-    ensures { OnOk result (out.new.items ≡ out.old.items ++ symbol_bytes symbol.now) }
+fn put_symbol(out: &mut Vec<u8>, format: Format, symbol: &Symbol) -> Result<(), Memory>
+    ensures { OnOk result (out.new.items ≡ out.old.items ++ symbol_bytes format symbol.now) }
 {
     put_u32(out, symbol.kind.bits())?;
     put_u32(out, symbol.lang.bits())?;
     put_u32(out, symbol.props.bits())?;
     put_text(out, &symbol.usr)?;
-    put_text(out, &symbol.name)
+    put_text(out, &symbol.name)?;
+    put_codegen(out, format, &symbol.codegen)
 }
 
 #[tactic(auto, unfolding(crate::specs::Spelling::relation_bytes))]
@@ -51,11 +71,11 @@ fn put_relations(out: &mut Vec<u8>, relations: &[Relation]) -> Result<(), Memory
     Ok(())
 }
 
-fn put_symbols(out: &mut Vec<u8>, symbols: &[Symbol]) -> Result<(), Memory>
-    ensures { OnOk result (out.new.items ≡ out.old.items ++ flat_map symbol_bytes symbols.now) }
+fn put_symbols(out: &mut Vec<u8>, format: Format, symbols: &[Symbol]) -> Result<(), Memory>
+    ensures { OnOk result (out.new.items ≡ out.old.items ++ flat_map (symbol_bytes format) symbols.now) }
 {
     for symbol in symbols {
-        put_symbol(out, symbol)?;
+        put_symbol(out, format, symbol)?;
     }
     Ok(())
 }
@@ -79,9 +99,9 @@ pub fn encode(alloc: Global, value: &RecordValue) -> Result<Seq<u8>, Memory>
     let symbols = value.symbols.as_slice();
     let occurrences = value.occurrences.as_slice();
     let mut out = Vec::new(alloc);
-    put_u32(&mut out, MAGIC)?;
+    put_magic(&mut out, value.format)?;
     put_u32(&mut out, symbols.len() as u32)?;
-    put_symbols(&mut out, symbols)?;
+    put_symbols(&mut out, value.format, symbols)?;
     put_u32(&mut out, occurrences.len() as u32)?;
     put_occurrences(&mut out, occurrences)?;
     Ok(Seq::of(out))

@@ -3,9 +3,9 @@ use Rattle.std.proofs.Common.{◌≡◌, ℕ, ◌+◌, ◌≤◌, List, ◌++◌
 use Rattle.std.specs.Prelude.{MatchOption}
 use Rattle.std.proofs.lemmas.List.{length-append}
 use Rattle.sha2.specs.Sha256.{sha256}
-use Rattle.ix_wire.specs.Input.{Input, start, Passes}
+use Rattle.ix_wire.specs.Input.{Input, start}
 use Rattle.ix_wire.specs.Spelling.{IsBytes}
-use Rattle.ix_wire.proofs.Steps.{same_value}
+use Rattle.ix_wire.proofs.Door.{same_value}
 use Rattle.ix_unit.specs.declared.fault.UnitError.{UnitError}
 use Rattle.ix_unit.specs.declared.fault.UnitError.TheVariants.{Memory}
 use Rattle.ix_unit.specs.declared.value.UnitValue.{UnitValue}
@@ -20,13 +20,18 @@ use Rattle.ix_unit.proofs.Seal.{sealed, was_sealed}
 abbrev pub IsRead : List ℕ → UnitValue → Input → Type 0
 IsRead bytes v to = (unit_fields_at (start bytes) ≡ Ok (v, to)) × (seal_fault bytes to.at ≡ None)
 
-spelled_is_read : (bytes : List ℕ) (v : UnitValue) → UnitSpelling bytes v → (to : Input) × IsRead bytes v to
+-- behind the fields of the value
+abbrev pub behind : UnitValue → Input
+behind v = record { at = 0 + length (unit_bytes v); rest = sha256 (unit_bytes v) }
+
+pub fields_are_read : (bytes : List ℕ) (v : UnitValue) → UnitSpelling bytes v → unit_fields_at (start bytes) ≡ Ok (v, behind v)
+fields_are_read bytes v spelled = unit_read (start bytes) (behind v) v spelled.valid (record { parts = spelled.fields; moved = refl })
+
+pub spelled_is_read : (bytes : List ℕ) (v : UnitValue) → UnitSpelling bytes v → (to : Input) × IsRead bytes v to
 spelled_is_read bytes v spelled =
     let body = unit_bytes v in
-    let to : Input = record { at = 0 + length body; rest = sha256 body } in
-    let passes : Passes (start bytes) body to = record { parts = spelled.fields; moved = refl } in
-    let read : IsRead bytes v to = (unit_read (start bytes) to v spelled.valid passes, rw spelled.fields (sealed body (0 + length body) (omega arith))) in
-    (to, read)
+    let read : IsRead bytes v (behind v) = (fields_are_read bytes v spelled, rw spelled.fields (sealed body (0 + length body) (omega arith))) in
+    (behind v, read)
 
 pub read_was_spelled : (bytes : List ℕ) (v : UnitValue) (to : Input) → IsBytes bytes → IsRead bytes v to → UnitSpelling bytes v
 read_was_spelled bytes v to fits read =

@@ -1,5 +1,5 @@
 -- What is spelled is read, and what is read was spelled: dependencies, includes, and the fields of a unit.
-use Rattle.std.proofs.Common.{◌≡◌, ℕ, ◌^◌, ◌<◌, ◌+◌, ◌==◌, Bool, true, false, cond, List, ◌++◌, length, Ok, refl, sym, ap, subst, ◌∙◌, append_assoc, arith}
+use Rattle.std.proofs.Common.{◌≡◌, ℕ, ◌^◌, ◌<◌, ◌+◌, ◌==◌, Bool, List, ◌++◌, length, Ok, refl, sym, ap, subst, ◌∙◌, append_assoc, arith}
 use Rattle.std.specs.declared.cmp.Ordering.{Ordering}
 use Rattle.std.specs.Cmp.{IsTotalOrder}
 use Rattle.std.specs.List.{AllByRecursion, flat_map, filter_map}
@@ -10,9 +10,7 @@ use Rattle.ix_types.specs.Text.{IsText, IsTextOrEmpty}
 use Rattle.ix_wire.specs.Input.{Input, Passes}
 use Rattle.ix_wire.specs.Read.{◌>>=◌}
 use Rattle.ix_wire.specs.Spelling.{IsBytes, u32_bytes, text_bytes}
-use Rattle.ix_wire.proofs.Items.{IsItems, items_reader}
-use Rattle.ix_wire.proofs.Readers.{IsReader, step}
-use Rattle.ix_wire.proofs.Steps.{done_is, passes_join, passes_split}
+use Rattle.ix_wire.proofs.Door.{of_test, IsItems, items_reader, IsReader, step, done_is, passes_join, passes_split}
 use Rattle.ix_unit.specs.declared.dependency.Dependency.{Dependency}
 use Rattle.ix_unit.specs.declared.dependency.Dependency.TheVariants.{Unit, Record, File}
 use Rattle.ix_unit.specs.declared.fault.UnitError.TheVariants.{OutOfOrder}
@@ -20,7 +18,7 @@ use Rattle.ix_unit.specs.declared.value.RecordDep.{RecordDep}
 use Rattle.ix_unit.specs.declared.value.FileDep.{FileDep}
 use Rattle.ix_unit.specs.declared.value.Include.{Include}
 use Rattle.ix_unit.specs.declared.value.UnitValue.{UnitValue}
-use Rattle.ix_unit.specs.Kinds.{as_unit, as_record, as_file}
+use Rattle.ix_unit.specs.ByKind.{as_unit, as_record, as_file}
 use Rattle.ix_unit.specs.Order.{dependency_cmp, include_cmp}
 use Rattle.ix_unit.specs.Value.{IsValidRecordDep, IsValidFileDep, IsValidInclude, IsValidUnit, dependency_count}
 use Rattle.ix_unit.specs.Spelling.{magic_bytes, flag_bytes, unit_dep_bytes, record_dep_bytes, file_dep_bytes, include_bytes, unit_bytes}
@@ -120,10 +118,6 @@ one_field : {A : Type 0} (read : Input → Read A) (spelling : A → List ℕ) (
 one_field read spelling P made reader from y bytes e =
     let s = step read spelling P reader (λ x. Ok (made x.0, x.1)) from y bytes e in
     (s.0, s.1.valid, s.1.passes, done_is (made s.0.0, s.0.1) y s.1.goes_on)
-
-of_test : {A : Type 0} {P : Type 0} (b : Bool) (x z : Read A) (y : A × Input) → cond b x z ≡ Ok y → (b ≡ true → x ≡ Ok y → P) → (z ≡ Ok y → P) → P
-of_test true x z y e p q = p refl e
-of_test false x z y e p q = q e
 
 fields_were_spelled : (start kind : ℕ) (from : Input) (y : Dependency × Input) → IsBytes from.rest → dependency_of start kind from ≡ Ok y → IsOfKind kind from y
 unfolding dependency_of

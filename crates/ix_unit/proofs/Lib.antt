@@ -1,4 +1,6 @@
+pub mod Door
 pub mod Faults
+pub mod Fronts
 pub mod Grammar
 pub mod Merged
 pub mod Readers

@@ -16,7 +16,7 @@ use Rattle.ix_unit.specs.declared.dependency.Dependency.{Dependency}
 use Rattle.ix_unit.specs.declared.dependency.Dependency.TheVariants.{Unit, Record, File}
 use Rattle.ix_unit.specs.declared.value.RecordDep.{RecordDep}
 use Rattle.ix_unit.specs.declared.value.FileDep.{FileDep}
-use Rattle.ix_unit.specs.Kinds.{as_unit, as_record, as_file}
+use Rattle.ix_unit.specs.ByKind.{as_unit, as_record, as_file}
 use Rattle.ix_unit.specs.Order.{record_dep_cmp, file_dep_cmp, dependency_cmp}
 
 -- ---- one item more

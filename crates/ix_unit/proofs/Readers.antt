@@ -7,12 +7,11 @@ use Rattle.std.proofs.lemmas.Str.Ascii.{IsAscii-from_all}
 use Rattle.std.proofs.lemmas.List.Elements.{All-from_recursion}
 use Rattle.std.specs.List.{AllByRecursion}
 use Rattle.ix_types.specs.Name.{IsFileName, is_lower_hex}
-use Rattle.ix_types.specs.Text.{IsText, IsTextOrEmpty, is_control}
+use Rattle.ix_types.specs.Text.{IsText, IsTextOrEmpty, is_control, max_text_len}
 use Rattle.ix_wire.specs.Grammar.{tested_at}
 use Rattle.ix_wire.specs.Input.{Input, Passes}
 use Rattle.ix_wire.specs.Spelling.{u32_bytes, text_bytes}
-use Rattle.ix_wire.proofs.Readers.{IsReader, IsReader-also, step, number_field_reader, text_field_reader, any_text_field_reader, tested_reader, either_true}
-use Rattle.ix_wire.proofs.Steps.{done_is}
+use Rattle.ix_wire.proofs.Door.{IsReader, IsReader-also, step, number_field_reader, text_field_reader, any_text_field_reader, tested_reader, either_true, done_is}
 use Rattle.ix_unit.specs.declared.fault.UnitError.TheVariants.{BadMagic, BadField}
 use Rattle.ix_unit.specs.Fault.{unit_error}
 use Rattle.ix_unit.specs.Value.{IsLine}
@@ -127,7 +126,7 @@ name_is_text name named =
     let none : position is_control name ≡ None = rw (no_control_in name named.digits, le-ltb (length name) (length name) (omega arith)) refl in
     let utf8 = utf8_valid_len-IsUtf8 name (IsUtf8-from_ascii name (IsAscii-from_all name (All-from_recursion (λ c. c < 128) name (hex_is_ascii name named.digits)))) in
     let some : (length name == 0) ≡ false = false_from_not (length name == 0) (λ e. let same = eqb-true (length name) 0 e in omega (arith, same, named.not_empty)) in
-    rw (some, le-ltb 4096 (length name) (omega (arith, named.short)), utf8, le-ltb (length name) (length name) (omega arith), none) refl
+    rw (some, le-ltb max_text_len (length name) (omega (arith, named.short)), utf8, le-ltb (length name) (length name) (omega arith), none) refl
 
 pub name_reader : IsReader name_at text_bytes IsFileName
 unfolding name_at

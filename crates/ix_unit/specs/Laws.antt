@@ -1,6 +1,7 @@
 -- What holds of units and their bytes.
-use Rattle.std.specs.Prelude.{◌≡◌, List, ℕ, MatchOption}
+use Rattle.std.specs.Prelude.{◌≡◌, List, ℕ, ◌<◌, ◌++◌, length, Some, MatchOption}
 use Rattle.ix_wire.specs.Spelling.{IsBytes}
+use Rattle.ix_unit.specs.declared.fault.UnitError.TheVariants.{Short}
 use Rattle.ix_unit.specs.declared.value.UnitValue.{UnitValue}
 use Rattle.ix_unit.specs.Reading.{unit_fault}
 use Rattle.ix_unit.specs.Spelling.{UnitSpelling}
@@ -17,3 +18,7 @@ OneSpelling = (a b : List ℕ) (v : UnitValue) → UnitSpelling a v → UnitSpel
 -- a spelling has one value
 abbrev pub OneValue : Type 0
 OneValue = (bytes : List ℕ) (v w : UnitValue) → UnitSpelling bytes v → UnitSpelling bytes w → v ≡ w
+
+-- a proper front of a spelling runs short
+abbrev pub ShortWhereCut : Type 0
+ShortWhereCut = (front more : List ℕ) (v : UnitValue) → 0 < length more → UnitSpelling (front ++ more) v → unit_fault front ≡ Some Short

@@ -1,6 +1,6 @@
+pub mod ByKind
 pub mod Fault
 pub mod Gives
-pub mod Kinds
 pub mod Laws
 pub mod Order
 pub mod Reading

@@ -17,7 +17,7 @@ use Rattle.ix_unit.specs.declared.value.FileDep.{FileDep}
 use Rattle.ix_unit.specs.declared.value.Include.{Include}
 use Rattle.ix_unit.specs.declared.value.UnitValue.{UnitValue}
 use Rattle.ix_unit.specs.Fault.{unit_error}
-use Rattle.ix_unit.specs.Kinds.{kinds_of}
+use Rattle.ix_unit.specs.ByKind.{by_kind}
 use Rattle.ix_unit.specs.Order.{dependency_cmp, include_cmp}
 
 -- a value and what is left, or the first fault
@@ -122,9 +122,9 @@ unit_fields_at from = do
       main_file = main_file.0;
       module_name = module_name.0;
       system = system.0;
-      units = (kinds_of dependencies.0).units;
-      records = (kinds_of dependencies.0).records;
-      files = (kinds_of dependencies.0).files;
+      units = (by_kind dependencies.0).units;
+      records = (by_kind dependencies.0).records;
+      files = (by_kind dependencies.0).files;
       includes = includes.0;
     },
     includes.1,

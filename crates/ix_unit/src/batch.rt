@@ -4,14 +4,14 @@ use ix_types::{FileName, Seq};
 use std::sync::Arc;
 
 /// A unit that was put, with its file's name.
-#[derive(Drop)]
+#[derive(Debug, Drop, PartialEq, Eq)]
 pub struct UnitPut {
     pub name: FileName,
     pub unit: Arc<UnitValue>,
 }
 
 /// What leads from one map of units to a later one.
-#[derive(Drop)]
+#[derive(Debug, Drop, PartialEq, Eq)]
 pub struct Batch {
     pub puts: Seq<UnitPut>,
     pub gone: Seq<FileName>,
@@ -19,7 +19,7 @@ pub struct Batch {
 
 /// The units up to `mark`, the number of publications: the batch that leads there, and the names of the records that
 /// the units need since.
-#[derive(Drop)]
+#[derive(Debug, Drop, PartialEq, Eq)]
 pub struct Scan {
     pub mark: u64,
     pub batch: Batch,

@@ -10,7 +10,7 @@ pub const RECORD: u32 = 2;
 pub const FILE: u32 = 3;
 
 /// A dependency of any kind. The kinds stand in the order in which dependencies are sorted.
-#[derive(Drop, PartialEq, Eq, PartialOrd, Ord)]
+#[derive(Debug, Drop, PartialEq, Eq, PartialOrd, Ord)]
 pub enum Dependency {
     /// The unit that wrote this output.
     Unit(Text),
@@ -19,8 +19,8 @@ pub enum Dependency {
 }
 
 /// The dependencies of each kind, in their order.
-#[derive(Drop)]
-pub struct Kinds {
+#[derive(Debug, Drop, PartialEq, Eq)]
+pub struct ByKind {
     pub units: Seq<Text>,
     pub records: Seq<RecordDep>,
     pub files: Seq<FileDep>,

@@ -5,23 +5,31 @@ ghost use Rattle.ix_unit.specs.Fault.{unit_error};
 
 use ix_wire::WireError;
 use std::alloc::{AllocError, AllocFailed};
+use thiserror::Error;
 
 /// The first fault of the bytes, from the left. A place is the number of bytes before it.
-#[derive(Clone, Copy, Debug, PartialEq, Eq)]
+#[derive(Clone, Copy, Debug, PartialEq, Eq, Error)]
 pub enum UnitError {
     /// The first four bytes are other than those of a unit file.
+    #[error("not a unit file")]
     BadMagic,
     /// Fewer bytes are left than a field needs.
+    #[error("bytes are missing")]
     Short,
     /// The field at `at` has a value that isn't allowed.
+    #[error("bad field at byte {at}")]
     BadField { at: u64 },
     /// The dependency or include at `at` isn't greater than the one before.
+    #[error("out of order at byte {at}")]
     OutOfOrder { at: u64 },
     /// Bytes are left from `at` on.
+    #[error("bytes are left from byte {at} on")]
     Trailing { at: u64 },
     /// The 32 bytes behind the includes aren't the SHA-256 of the bytes before them.
+    #[error("wrong digest")]
     BadDigest,
     /// Memory was wanting.
+    #[error("memory")]
     Memory,
 }
 

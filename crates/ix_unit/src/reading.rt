@@ -2,11 +2,11 @@
 ghost use Rattle.std.specs.Prelude.{◌≡◌, ◌⊎◌, ◌≤◌, length, IfOk, IfErr, Some, Ok, Err};
 ghost use Rattle.ix_unit.specs.Gives.{Gives, GivesSeal};
 ghost use Rattle.ix_unit.specs.declared.value.UnitValue.{UnitValue};
-ghost use Rattle.ix_unit.specs.Kinds.{kinds_of};
+ghost use Rattle.ix_unit.specs.ByKind.{by_kind};
 ghost use Rattle.ix_unit.specs.Reading.{number_at, path_at, any_text_at, magic_at, flag_at, line_at, name_at, record_dep_at, file_dep_at, dependency_of, dependency_at, dependencies_at, include_at, includes_at, unit_fields_at, seal_fault, unit_fault};
 ghost use Rattle.ix_unit.specs.Spelling.{UnitSpelling};
 
-use crate::dependency::{Dependency, FILE, Kinds, RECORD, UNIT};
+use crate::dependency::{ByKind, Dependency, FILE, RECORD, UNIT};
 use crate::fault::UnitError;
 use crate::order::{dependency_follows, include_follows};
 use crate::value::{FileDep, Include, MAGIC, RecordDep, UnitValue};
@@ -140,8 +140,8 @@ fn read_dependencies(
 }
 
 /// Takes the dependencies apart by kind.
-fn by_kind(alloc: Global, dependencies: Seq<Dependency>) -> Result<Kinds, UnitError>
-    ensures value { IfOk result (λ kinds. kinds ≡ kinds_of dependencies) }
+fn part_by_kind(alloc: Global, dependencies: Seq<Dependency>) -> Result<ByKind, UnitError>
+    ensures value { IfOk result (λ parts. parts ≡ by_kind dependencies) }
     ensures memory { IfErr result (λ e. e ≡ UnitError.Memory) }
 {
     let mut units = Vec::new(alloc);
@@ -154,7 +154,7 @@ fn by_kind(alloc: Global, dependencies: Seq<Dependency>) -> Result<Kinds, UnitEr
             Dependency::File(dep) => files.push(dep)?,
         }
     }
-    Ok(Kinds {
+    Ok(ByKind {
         units: Seq::of(units),
         records: Seq::of(records),
         files: Seq::of(files),
@@ -205,15 +205,15 @@ fn read_unit(alloc: Global, cursor: &mut Cursor<'_>) -> Result<UnitValue, UnitEr
     let dependencies = read_dependencies(alloc, cursor, dependency_count)?;
     let include_count = read_number(cursor)?;
     let includes = read_includes(alloc, cursor, include_count)?;
-    let kinds = by_kind(alloc, dependencies)?;
+    let parts = part_by_kind(alloc, dependencies)?;
     Ok(UnitValue {
         output,
         main_file,
         module_name,
         system,
-        units: kinds.units,
-        records: kinds.records,
-        files: kinds.files,
+        units: parts.units,
+        records: parts.records,
+        files: parts.files,
         includes,
     })
 }

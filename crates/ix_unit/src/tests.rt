@@ -4,39 +4,114 @@ use std::alloc::{AllocError, Global};
 use std::test::*;
 
 /// A unit of one record and no include.
-const BYTES: [u8; 158] = [
-    73, 88, 85, 49, 0, 0, 0, 3, 97, 98, 99, 0, 0, 0, 7, 97, 46, 115, 119, 105, 102, 116, 0, 0, 0,
-    1, 77, 0, 0, 0, 0, 0, 0, 0, 1, 0, 0, 0, 2, 0, 0, 0, 7, 97, 46, 115, 119, 105, 102, 116, 0, 0,
-    0, 0, 0, 0, 0, 64, 57, 99, 52, 57, 56, 99, 97, 100, 102, 50, 48, 49, 52, 56, 55, 57, 102, 102,
-    100, 56, 48, 99, 101, 55, 102, 56, 57, 102, 101, 97, 98, 56, 54, 97, 50, 48, 51, 50, 101, 48,
-    98, 54, 98, 49, 48, 100, 54, 55, 54, 50, 56, 101, 48, 55, 56, 54, 50, 52, 97, 53, 54, 51, 102,
-    53, 0, 0, 0, 0, 137, 251, 82, 56, 69, 223, 144, 181, 175, 244, 98, 98, 248, 199, 227, 216, 135,
-    134, 149, 122, 161, 205, 114, 201, 201, 136, 82, 64, 201, 222, 188, 195,
-];
+const UNIT: &str =
+    "495855310000000361626300000007612e7377696674000000014d00000000000000010000000200000007612e73776966740000000000000040396334393863616466323031343837396666643830636537663839666561623836613230333265306236623130643637363238653037383632346135363366350000000089fb523845df90b5aff46262f8c7e3d88786957aa1cd72c9c9885240c9debcc3";
 
-const NONE: [u8; 4] = [0, 0, 0, 0];
+/// What `UNIT` says.
+const VALUE: &str =
+    "UnitValue { output: \"abc\", main_file: \"a.swift\", module_name: \"M\", system: false, units: [], records: [RecordDep { path: \"a.swift\", system: false, name: \"9c498cadf2014879ffd80ce7f89feab86a2032e0b6b10d67628e078624a563f5\" }], files: [], includes: [] }";
 
-const ONE: [u8; 4] = [0, 0, 0, 1];
+/// What stands in `UNIT`, what is put in its place, and the fault.
+const FAULTS: &str = "\
+49585531 | 49585532 | not a unit file
+00000003616263 | 00000000 | bad field at byte 4
+00000003616263 | 00001103616263 | bad field at byte 4
+00000003616263 | 000000c8616263 | bytes are missing
+616263 | 0a6263 | bad field at byte 4
+616263 | 616264 | wrong digest
+00000007612e7377696674000000014d | 0000000000000000 | wrong digest
+61626300000007612e | 61626300000007ff2e | bad field at byte 11
+000000014d | 000000010a | bad field at byte 22
+4d00000000 | 4d00000002 | bad field at byte 27
+0000000100000002 | 0000000200000002 | bad field at byte 122
+0000000100000002 | 0000000100000000 | bad field at byte 35
+0000000100000002 | 0000000100000004 | bad field at byte 35
+0000000200000007612e | 0000000200000000612e | bad field at byte 39
+6674000000000000004039 | 6674000000020000004039 | bad field at byte 50
+0000004039 | 0000000039 | bad field at byte 54
+39633439 | 41633439 | bad field at byte 54
+39633439 | 67633439 | bad field at byte 54
+66350000000089fb | 66350000000189fb | bad field at byte 126
+debcc3 | debc00 | wrong digest
+debcc3 | debc0000 | wrong digest
+debcc3 | debcc300 | bytes are left from byte 158 on
+000000010000000200000007612e7377696674000000000000004039633439386361646632303134383739666664383063653766383966656162383661323033326530623662313064363736323865303738363234613536336635 | 000000020000000200000007612e73776966740000000000000040396334393863616466323031343837396666643830636537663839666561623836613230333265306236623130643637363238653037383632346135363366350000000200000007612e7377696674000000000000004039633439386361646632303134383739666664383063653766383966656162383661323033326530623662313064363736323865303738363234613536336635 | out of order at byte 122
+000000010000000200000007612e7377696674000000000000004039633439386361646632303134383739666664383063653766383966656162383661323033326530623662313064363736323865303738363234613536336635 | 000000020000000200000007612e7377696674000000000000004039633439386361646632303134383739666664383063653766383966656162383661323033326530623662313064363736323865303738363234613536336635000000010000000175 | out of order at byte 122
+000000010000000200000007612e7377696674000000000000004039633439386361646632303134383739666664383063653766383966656162383661323033326530623662313064363736323865303738363234613536336635 | 00000002000000030000000166000000000000000200000007612e7377696674000000000000004039633439386361646632303134383739666664383063653766383966656162383661323033326530623662313064363736323865303738363234613536336635 | out of order at byte 48
+000000010000000200000007612e7377696674000000000000004039633439386361646632303134383739666664383063653766383966656162383661323033326530623662313064363736323865303738363234613536336635 | 00000002000000010000000175000000010000000175 | out of order at byte 44
+000000010000000200000007612e7377696674000000000000004039633439386361646632303134383739666664383063653766383966656162383661323033326530623662313064363736323865303738363234613536336635 | 000000020000000300000001660000000100000003000000016600000000 | out of order at byte 48
+000000010000000200000007612e7377696674000000000000004039633439386361646632303134383739666664383063653766383966656162383661323033326530623662313064363736323865303738363234613536336635 | 000000020000000300000001660000000100000003000000016700000000 | wrong digest
+000000010000000200000007612e7377696674000000000000004039633439386361646632303134383739666664383063653766383966656162383661323033326530623662313064363736323865303738363234613536336635 | 000000010000000100000000 | bad field at byte 39
+000000010000000200000007612e737769667400000000000000403963343938636164663230313438373966666438306365376638396665616238366132303332653062366231306436373632386530373836323461353633663500000000 | 000000000000000200000001610000000500000001620000000161000000050000000162 | out of order at byte 53
+000000010000000200000007612e737769667400000000000000403963343938636164663230313438373966666438306365376638396665616238366132303332653062366231306436373632386530373836323461353633663500000000 | 000000000000000200000001610000000500000001620000000162000000040000000161 | wrong digest
+000000010000000200000007612e737769667400000000000000403963343938636164663230313438373966666438306365376638396665616238366132303332653062366231306436373632386530373836323461353633663500000000 | 000000000000000100000000 | bad field at byte 39
+000000010000000200000007612e737769667400000000000000403963343938636164663230313438373966666438306365376638396665616238366132303332653062366231306436373632386530373836323461353633663500000000 | 0000000000000001000000016100000000 | bad field at byte 44
+000000010000000200000007612e737769667400000000000000403963343938636164663230313438373966666438306365376638396665616238366132303332653062366231306436373632386530373836323461353633663500000000 | 000000000000000100000001610000000500000000 | bad field at byte 48";
 
-const TWO: [u8; 4] = [0, 0, 0, 2];
-
-/// Dependencies on a unit, on a file, and on the same file as one of the system.
-const UNIT: [u8; 9] = [0, 0, 0, 1, 0, 0, 0, 1, 117];
-
-const FILE: [u8; 13] = [0, 0, 0, 3, 0, 0, 0, 1, 102, 0, 0, 0, 0];
-
-const SYSTEM_FILE: [u8; 13] = [0, 0, 0, 3, 0, 0, 0, 1, 102, 0, 0, 0, 1];
-
-/// An include at line 5.
-const INCLUDE: [u8; 14] = [0, 0, 0, 1, 97, 0, 0, 0, 5, 0, 0, 0, 1, 98];
-
-/// The fault of the parts, one after the other.
-fn fault_of(alloc: Global, parts: &[&[u8]]) -> Result<Option<UnitError>, AllocError> {
-    let mut bytes = Vec::new(alloc);
-    for part in parts {
-        bytes.extend_from_slice(part)?;
+/// The fault of the bytes in words; nothing where they are a unit.
+fn fault(alloc: Global, digits: &str) -> Result<String, Fail> {
+    let bytes = hex::decode(alloc, digits.as_bytes())?;
+    match decode(alloc, bytes.as_slice()) {
+        Ok(_) => Ok(String::new(alloc)),
+        Err(fault) => Ok(fault.to_string(alloc)?),
     }
-    Ok(decode(alloc, &bytes).err())
+}
+
+/// Whether the unit, changed as the line says, has the line's fault.
+fn has_fault(alloc: Global, line: &str) -> Result<bool, Fail> {
+    let (old, change) = line.split_once(" | ").ok_or("no change")?;
+    let (new, want) = change.split_once(" | ").ok_or("no fault")?;
+    let (front, back) = UNIT.split_once(old).ok_or("no such part")?;
+    let changed = format!(in alloc; "{front}{new}{back}")?;
+    let fault = fault(alloc, changed.as_str())?;
+    Ok(fault.as_str() == want)
+}
+
+/// Whether the bytes are a unit that is spelled so again.
+fn is_spelled_again(alloc: Global, bytes: &[u8]) -> bool {
+    let Ok(value) = decode(alloc, bytes) else {
+        return false;
+    };
+    match encode(alloc, &value) {
+        Ok(again) => again.as_slice() == bytes,
+        Err(_) => false,
+    }
+}
+
+/// Whether each proper front of the bytes is short.
+fn fronts_are_short(alloc: Global, bytes: &[u8]) -> bool {
+    for len in 0..bytes.len() {
+        if decode(alloc, &bytes[..len]).err() != Some(UnitError::Short) {
+            return false;
+        }
+    }
+    true
+}
+
+#[test]
+fn a_unit_is_read_and_written(rt: HostRuntime) -> Result<(), Fail> {
+    let bytes = hex::decode(rt.alloc(), UNIT.as_bytes())?;
+    assert!(rt; is_spelled_again(rt.alloc(), bytes.as_slice()));
+    assert!(rt; fronts_are_short(rt.alloc(), bytes.as_slice()));
+    Ok(())
+}
+
+#[test]
+fn a_unit_has_its_values(rt: HostRuntime) -> Result<(), Fail> {
+    let bytes = hex::decode(rt.alloc(), UNIT.as_bytes())?;
+    let value = decode(rt.alloc(), bytes.as_slice())?;
+    let printed = format!(in rt.alloc(); "{value:?}")?;
+    assert_eq!(rt; printed.as_str(), VALUE);
+    Ok(())
+}
+
+#[test]
+fn each_fault_is_the_first(rt: HostRuntime) -> Result<(), Fail> {
+    for line in FAULTS.lines() {
+        assert!(rt; has_fault(rt.alloc(), line)?, "{line}");
+    }
+    assert_eq!(rt; UnitError::Memory.to_string(rt.alloc())?.as_str(), "memory");
+    Ok(())
 }
 
 /// Writes the number as a text of four digits.
@@ -48,10 +123,16 @@ fn put_digits(out: &mut Vec<u8>, number: u16) -> Result<(), AllocError> {
     out.extend_from_slice(&[0, 0, 0, 4, thousands, hundreds, tens, ones])
 }
 
-/// Writes dependencies of one kind, with what stands behind each path.
-fn put_each(out: &mut Vec<u8>, kind: u8, behind: &[u8], named: bool) -> Result<(), AllocError> {
+/// Writes 4,096 items: what stands before a number as a text, and what stands behind it, with the number again where
+/// it is named.
+fn put_each(
+    out: &mut Vec<u8>,
+    before: &[u8],
+    behind: &[u8],
+    named: bool,
+) -> Result<(), AllocError> {
     for number in 0..4096u16 {
-        out.extend_from_slice(&[0, 0, 0, kind])?;
+        out.extend_from_slice(before)?;
         put_digits(out, number)?;
         out.extend_from_slice(behind)?;
         if named {
@@ -61,161 +142,24 @@ fn put_each(out: &mut Vec<u8>, kind: u8, behind: &[u8], named: bool) -> Result<(
     Ok(())
 }
 
-/// A unit with 4,096 units, records, files and includes.
-fn full_unit(alloc: Global) -> Result<Vec<u8>, AllocError> {
-    let mut bytes = Vec::from_slice(alloc, &BYTES[..31])?;
+/// A unit with 4,096 units, records, files and includes, behind the fields at the front.
+fn full_unit(alloc: Global, front: &[u8]) -> Result<Vec<u8>, AllocError> {
+    let mut bytes = Vec::from_slice(alloc, front)?;
     bytes.extend_from_slice(&[0, 0, 48, 0])?;
-    put_each(&mut bytes, 1, [].as_slice(), false)?;
-    put_each(&mut bytes, 2, &ONE, true)?;
-    put_each(&mut bytes, 3, &NONE, false)?;
+    put_each(&mut bytes, &[0, 0, 0, 1], &[], false)?;
+    put_each(&mut bytes, &[0, 0, 0, 2], &[0, 0, 0, 1], true)?;
+    put_each(&mut bytes, &[0, 0, 0, 3], &[0, 0, 0, 0], false)?;
     bytes.extend_from_slice(&[0, 0, 16, 0])?;
-    for number in 0..4096u16 {
-        put_digits(&mut bytes, number)?;
-        bytes.extend_from_slice(&ONE)?;
-        put_digits(&mut bytes, number)?;
-    }
+    put_each(&mut bytes, &[], &[0, 0, 0, 1], true)?;
     let digest = Sha256::digest(bytes.as_slice());
     bytes.extend_from_slice(&digest)?;
     Ok(bytes)
 }
 
 #[test]
-fn a_unit_is_read(rt: HostRuntime) -> Result<(), Fail> {
-    let value = decode(rt.alloc(), &BYTES)?;
-    assert_eq!(rt; value.output.bytes(), b"abc".as_slice());
-    assert_eq!(rt; value.main_file.bytes(), b"a.swift".as_slice());
-    assert_eq!(rt; value.module_name.bytes(), b"M".as_slice());
-    assert!(rt; !value.system);
-    assert!(rt; value.units.as_slice().is_empty());
-    assert_eq!(rt; value.records.as_slice().len(), 1);
-    for record in value.records.as_slice() {
-        assert_eq!(rt; record.path.bytes(), b"a.swift".as_slice());
-        assert!(rt; !record.system);
-        assert_eq!(rt;
-            record.name.bytes(),
-            b"9c498cadf2014879ffd80ce7f89feab86a2032e0b6b10d67628e078624a563f5".as_slice()
-        );
-    }
-    assert!(rt; value.files.as_slice().is_empty());
-    assert!(rt; value.includes.as_slice().is_empty());
-    Ok(())
-}
-
-#[test]
-fn a_unit_is_written(rt: HostRuntime) -> Result<(), Fail> {
-    let value = decode(rt.alloc(), &BYTES)?;
-    let bytes = encode(rt.alloc(), &value)?;
-    assert_eq!(rt; bytes.as_slice(), BYTES.as_slice());
-    Ok(())
-}
-
-#[test]
 fn a_full_unit_is_read_and_written(rt: HostRuntime) -> Result<(), Fail> {
-    let full = full_unit(rt.alloc())?;
-    let value = decode(rt.alloc(), &full)?;
-    assert_eq!(rt; value.units.as_slice().len(), 4096);
-    assert_eq!(rt; value.records.as_slice().len(), 4096);
-    assert_eq!(rt; value.files.as_slice().len(), 4096);
-    assert_eq!(rt; value.includes.as_slice().len(), 4096);
-    let bytes = encode(rt.alloc(), &value)?;
-    assert_eq!(rt; bytes.as_slice(), full.as_slice());
-    Ok(())
-}
-
-#[test]
-fn one_byte_is_wrong(rt: HostRuntime) -> Result<(), Fail> {
-    let rows = [
-        (3usize, 0x32u8, UnitError::BadMagic),
-        (7, 0, UnitError::BadField { at: 4 }),
-        (6, 17, UnitError::BadField { at: 4 }),
-        (7, 200, UnitError::Short),
-        (8, 10, UnitError::BadField { at: 4 }),
-        (10, 0x64, UnitError::BadDigest),
-        (15, 255, UnitError::BadField { at: 11 }),
-        (26, 10, UnitError::BadField { at: 22 }),
-        (30, 2, UnitError::BadField { at: 27 }),
-        (34, 2, UnitError::BadField { at: 122 }),
-        (38, 0, UnitError::BadField { at: 35 }),
-        (38, 4, UnitError::BadField { at: 35 }),
-        (42, 0, UnitError::BadField { at: 39 }),
-        (53, 2, UnitError::BadField { at: 50 }),
-        (57, 0, UnitError::BadField { at: 54 }),
-        (58, 65, UnitError::BadField { at: 54 }),
-        (58, 103, UnitError::BadField { at: 54 }),
-        (125, 1, UnitError::BadField { at: 126 }),
-        (157, 0, UnitError::BadDigest),
-    ];
-    for (at, byte, fault) in rows {
-        let mut bytes = Vec::from_slice(rt.alloc(), &BYTES)?;
-        assert!(rt; at < bytes.len());
-        bytes[at] = byte;
-        assert_eq!(rt; decode(rt.alloc(), &bytes).err(), Some(fault), "byte {at}");
-    }
-    Ok(())
-}
-
-#[test]
-fn bytes_are_missing_or_left(rt: HostRuntime) -> Result<(), Fail> {
-    for len in [157usize, 126, 124, 3] {
-        assert!(rt; len < 158);
-        assert_eq!(rt;
-            decode(rt.alloc(), &BYTES[..len]).err(),
-            Some(UnitError::Short)
-        );
-    }
-    let more = fault_of(rt.alloc(), &[&BYTES, &[0]])?;
-    assert_eq!(rt; more, Some(UnitError::Trailing { at: 158 }));
-    Ok(())
-}
-
-#[test]
-fn lists_are_wrong(rt: HostRuntime) -> Result<(), Fail> {
-    let none = [].as_slice();
-    let (head, record) = (&BYTES[..31], &BYTES[35..122]);
-    let rows = [
-        (
-            [head, &TWO, record, record, none],
-            UnitError::OutOfOrder { at: 122 },
-        ),
-        (
-            [head, &TWO, record, &UNIT, none],
-            UnitError::OutOfOrder { at: 122 },
-        ),
-        (
-            [head, &TWO, &FILE, record, none],
-            UnitError::OutOfOrder { at: 48 },
-        ),
-        (
-            [head, &TWO, &UNIT, &UNIT, none],
-            UnitError::OutOfOrder { at: 44 },
-        ),
-        (
-            [head, &TWO, &SYSTEM_FILE, &FILE, none],
-            UnitError::OutOfOrder { at: 48 },
-        ),
-        (
-            [head, &ONE, &UNIT[..4], &NONE, none],
-            UnitError::BadField { at: 39 },
-        ),
-        (
-            [head, &NONE, &TWO, &INCLUDE, &INCLUDE],
-            UnitError::OutOfOrder { at: 53 },
-        ),
-        (
-            [head, &NONE, &ONE, &NONE, none],
-            UnitError::BadField { at: 39 },
-        ),
-        (
-            [head, &NONE, &ONE, &INCLUDE[..5], &NONE],
-            UnitError::BadField { at: 44 },
-        ),
-        (
-            [head, &NONE, &ONE, &INCLUDE[..9], &NONE],
-            UnitError::BadField { at: 48 },
-        ),
-    ];
-    for (parts, fault) in rows {
-        assert_eq!(rt; fault_of(rt.alloc(), &parts)?, Some(fault));
-    }
+    let front = hex::decode(rt.alloc(), UNIT.split_at(62).0.as_bytes())?;
+    let bytes = full_unit(rt.alloc(), front.as_slice())?;
+    assert!(rt; is_spelled_again(rt.alloc(), bytes.as_slice()));
     Ok(())
 }

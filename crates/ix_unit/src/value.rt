@@ -5,7 +5,7 @@ use ix_types::{FileName, Seq, Text};
 pub const MAGIC: u32 = 0x4958_5531;
 
 /// A source file with its record. The fields stand in the order in which such files are sorted.
-#[derive(Drop, PartialEq, Eq, PartialOrd, Ord)]
+#[derive(Debug, Drop, PartialEq, Eq, PartialOrd, Ord)]
 pub struct RecordDep {
     pub path: Text,
     pub system: bool,
@@ -13,14 +13,14 @@ pub struct RecordDep {
 }
 
 /// A source file that has no record. The fields stand in the order in which such files are sorted.
-#[derive(Drop, PartialEq, Eq, PartialOrd, Ord)]
+#[derive(Debug, Drop, PartialEq, Eq, PartialOrd, Ord)]
 pub struct FileDep {
     pub path: Text,
     pub system: bool,
 }
 
 /// An include at a line, counted from 1. The fields stand in the order in which includes are sorted.
-#[derive(Drop, PartialEq, Eq, PartialOrd, Ord)]
+#[derive(Debug, Drop, PartialEq, Eq, PartialOrd, Ord)]
 pub struct Include {
     pub from: Text,
     pub line: u32,
@@ -28,7 +28,7 @@ pub struct Include {
 }
 
 /// What one compilation wrote and depends on.
-#[derive(Drop)]
+#[derive(Debug, Drop, PartialEq, Eq)]
 pub struct UnitValue {
     pub output: Text,
     pub main_file: Text,

@@ -49,7 +49,7 @@ above_none cmp None = tt
 above_none cmp (Some b) = tt
 
 -- where nothing stands between two places, they are one
-passes_nothing : (from to : Input) → Passes from [] to → from ≡ to
+pub passes_nothing : (from to : Input) → Passes from [] to → from ≡ to
 passes_nothing from to passes =
     let same_at : from.at ≡ to.at = omega (arith, passes.moved) in
     ap (λ (at : ℕ). record { at = at; rest = from.rest }) same_at ∙ ap (λ (rest : List ℕ). record { at = to.at; rest = rest }) passes.parts

@@ -28,6 +28,11 @@ pub test_ok : {E A : Type 0} (b : Bool) (d : E) (x : Result A E) (y : A) → con
 test_ok true d x y e = (refl, e)
 test_ok false d x y e = absurd cc
 
+-- what a test decided
+pub of_test : {E A : Type 0} {P : Type 0} (b : Bool) (x z : Read E A) (y : A × Input) → cond b x z ≡ Ok y → (b ≡ true → x ≡ Ok y → P) → (z ≡ Ok y → P) → P
+of_test true x z y e p q = p refl e
+of_test false x z y e p q = q e
+
 abbrev pub done : (E : Type 0) {A : Type 0} → A × Input → Read E A
 done E x = Ok x
 

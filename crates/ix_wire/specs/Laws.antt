@@ -1,10 +1,14 @@
 -- What holds of the spellings and of reading them.
-use Rattle.std.specs.Prelude.{◌≡◌, ℕ, ◌<◌, List, ◌++◌, Bool, IsTrue, Ok}
+use Rattle.std.specs.Prelude.{◌≡◌, ℕ, ◌+◌, ◌^◌, ◌<◌, ◌≤◌, List, ◌++◌, length, All, Bool, IsTrue, None, Ok, Err}
+use Rattle.std.specs.List.{flat_map}
+use Rattle.std.specs.List.Sorted.{IsStrictlySortedBy}
+use Rattle.std.specs.Ordering.{nat_cmp}
 use Rattle.ix_wire.specs.declared.fault.WireError.{WireError}
 use Rattle.ix_wire.specs.Input.{Input, Passes}
 use Rattle.ix_wire.specs.Read.{Read}
-use Rattle.ix_wire.specs.Spelling.{IsBytes, text_bytes}
-use Rattle.ix_wire.specs.Reading.{is_text, text_at}
+use Rattle.ix_wire.specs.Grammar.{items_at}
+use Rattle.ix_wire.specs.Spelling.{IsBytes, u32_bytes, text_bytes}
+use Rattle.ix_wire.specs.Reading.{is_text, u32_at, text_at}
 
 -- A number below the limit is read where its spelling stands, whatever follows. Of bytes, what is read was
 -- spelled there.
@@ -38,3 +42,20 @@ PassesSplit = (from to : Input) (a b : List ℕ) → Passes from (a ++ b) to →
 -- what is left of bytes is bytes
 abbrev pub PassesBytes : Type 0
 PassesBytes = (from to : Input) (a : List ℕ) → IsBytes from.rest → Passes from a to → IsBytes to.rest
+
+-- so many numbers that rise strictly
+pub record AreRising (count : ℕ) (ns : List ℕ) : Type 0 where
+  pub counted : length ns ≡ count
+  pub small : All (λ n. n < 2 ^ 32) ns
+  pub rising : IsStrictlySortedBy nat_cmp ns
+
+-- A list of items, here of numbers, is read where its items stand one after the other and rise strictly. Of bytes, what is
+-- read was spelled there so.
+pub record RisingNumbersAreRead : Type 0 where
+  pub is_read : (out_of_order : ℕ → WireError) (count : ℕ) (from to : Input) (ns : List ℕ) → AreRising count ns → Passes from (flat_map u32_bytes ns) to → items_at out_of_order u32_at nat_cmp count None from ≡ Ok (ns, to)
+  pub was_spelled : (out_of_order : ℕ → WireError) (count : ℕ) (from to : Input) (ns : List ℕ) → IsBytes from.rest → items_at out_of_order u32_at nat_cmp count None from ≡ Ok (ns, to) → AreRising count ns × Passes from (flat_map u32_bytes ns) to
+
+-- a second item that isn't greater than the first is a fault at its start, whatever follows
+abbrev pub FallenNumberIsRefused : Type 0
+FallenNumberIsRefused =
+    (out_of_order : ℕ → WireError) (count m n : ℕ) (from to : Input) → 2 ≤ count → m < 2 ^ 32 → n ≤ m → Passes from (u32_bytes m ++ u32_bytes n) to → items_at out_of_order u32_at nat_cmp count None from ≡ Err (out_of_order (from.at + 4))

@@ -7,11 +7,8 @@ use ix_types::{Text, TextError};
 use std::alloc::Global;
 use std::marker::Model;
 
-/// The most bytes that a text has.
-const MAX_TEXT_LEN: u32 = 4096;
-
 /// Bytes that are still to be read, and how many were read before them.
-#[derive(Drop)]
+#[derive(Debug, Drop)]
 pub struct Cursor<'a> {
     rest: &'a [u8],
     at: u64,
@@ -109,7 +106,7 @@ impl<'a> Cursor<'a> {
         ensures read { IfOk result (λ t. text_of may_be_empty start len self.old ≡ Ok (t, self.new)) }
         ensures refused { IfErr result (λ e. (e ≡ WireError.Memory) ⊎ (text_of may_be_empty start len self.old ≡ Err e)) }
     {
-        if len > MAX_TEXT_LEN {
+        if len as usize > Text::MAX_LEN {
             return Err(WireError::TooLong { at: start });
         }
         if self.rest.len() < len as usize {

@@ -1,7 +1,9 @@
 //! Laws of the spellings and of reading them. The functions do nothing: their contracts are the laws.
 ghost use Rattle.std.specs.Prelude.{◌^◌};
-ghost use Rattle.ix_wire.specs.Laws.{IsReadWhereSpelled, TextIsReadWhereSpelled, BeginsNoOther, TextBeginsNoOther, PassesJoin, PassesSplit, PassesBytes};
-ghost use Rattle.ix_wire.specs.Reading.{u32_at, u64_at};
+ghost use Rattle.std.specs.Prelude.{Bool};
+ghost use Rattle.ix_wire.specs.Fronts.{FieldReadsFronts};
+ghost use Rattle.ix_wire.specs.Laws.{IsReadWhereSpelled, TextIsReadWhereSpelled, BeginsNoOther, TextBeginsNoOther, PassesJoin, PassesSplit, PassesBytes, RisingNumbersAreRead, FallenNumberIsRefused};
+ghost use Rattle.ix_wire.specs.Reading.{u32_at, u64_at, text_at};
 ghost use Rattle.ix_wire.specs.Spelling.{u32_bytes, u64_bytes};
 
 /// A u32 is read where it is spelled, whatever follows, and what is read was spelled there.
@@ -47,4 +49,29 @@ pub fn passes_split()
 /// What is left of bytes is bytes.
 pub fn passes_bytes()
     ensures { PassesBytes }
+{}
+
+/// Of a front of the bytes a u32 is read as of all of them, or the front is too short for it.
+pub fn u32_is_short_or_same()
+    ensures { FieldReadsFronts u32_at }
+{}
+
+/// Of a front of the bytes a u64 is read as of all of them, or the front is too short for it.
+pub fn u64_is_short_or_same()
+    ensures { FieldReadsFronts u64_at }
+{}
+
+/// Of a front of the bytes a text is read as of all of them, or the front is too short for it.
+pub fn text_is_short_or_same()
+    ensures { (may_be_empty : Bool) → FieldReadsFronts (text_at may_be_empty) }
+{}
+
+/// So many items that rise strictly are read where they stand, and no other list is.
+pub fn rising_numbers_are_read()
+    ensures { RisingNumbersAreRead }
+{}
+
+/// An item that isn't greater than the one before is refused at its start.
+pub fn a_fallen_number_is_refused()
+    ensures { FallenNumberIsRefused }
 {}

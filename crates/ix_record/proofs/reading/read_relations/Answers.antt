@@ -1,7 +1,7 @@
 use Rattle.std.proofs.Common.{◌≡◌, inr, None, true, false}
 use Rattle.std.proofs.lemmas.Result.{err_from_is_err_and}
 use Rattle.ix_wire.specs.Grammar.{last_of, may_follow, items_at}
-use Rattle.ix_wire.proofs.Loop.{goes_on, ends, falls_back, is_done}
+use Rattle.ix_wire.proofs.Door.{goes_on, ends, falls_back, is_done}
 use Rattle.ix_record.specs.declared.fault.RecordError.TheVariants.{OutOfOrder, Memory}
 use Rattle.ix_record.specs.Order.{relation_cmp}
 use Rattle.ix_record.specs.Reading.{relation_at, relations_at}

@@ -1,6 +1,6 @@
 use Rattle.std.proofs.Common.{◌≡◌, ◌-◌, None}
 use Rattle.ix_wire.specs.Grammar.{items_at}
-use Rattle.ix_wire.proofs.Loop.{still}
+use Rattle.ix_wire.proofs.Door.{still}
 use Rattle.ix_record.specs.declared.fault.RecordError.TheVariants.{OutOfOrder}
 use Rattle.ix_record.specs.Order.{relation_cmp}
 use Rattle.ix_record.specs.Reading.{relation_at}

@@ -1,6 +1,6 @@
 use Rattle.std.proofs.Common.{◌≡◌, ◌-◌, None}
 use Rattle.ix_wire.specs.Grammar.{items_at}
-use Rattle.ix_wire.proofs.Loop.{still}
+use Rattle.ix_wire.proofs.Door.{still}
 use Rattle.ix_unit.specs.declared.fault.UnitError.TheVariants.{OutOfOrder}
 use Rattle.ix_unit.specs.Order.{dependency_cmp}
 use Rattle.ix_unit.specs.Reading.{dependency_at}

@@ -3,7 +3,7 @@ use Rattle.std.specs.Prelude.{ℕ, List, Option, Some, None}
 use Rattle.std.specs.List.{filter_map}
 use Rattle.ix_unit.specs.declared.dependency.Dependency.{Dependency}
 use Rattle.ix_unit.specs.declared.dependency.Dependency.TheVariants.{Unit, Record, File}
-use Rattle.ix_unit.specs.declared.dependency.Kinds.{Kinds}
+use Rattle.ix_unit.specs.declared.dependency.ByKind.{ByKind}
 use Rattle.ix_unit.specs.declared.value.RecordDep.{RecordDep}
 use Rattle.ix_unit.specs.declared.value.FileDep.{FileDep}
 
@@ -23,5 +23,5 @@ as_file (Record dep) = None
 as_file (File dep) = Some dep
 
 -- those of each kind, in their order
-abbrev pub kinds_of : List Dependency → Kinds
-kinds_of ds = record { units = filter_map as_unit ds; records = filter_map as_record ds; files = filter_map as_file ds }
+abbrev pub by_kind : List Dependency → ByKind
+by_kind ds = record { units = filter_map as_unit ds; records = filter_map as_record ds; files = filter_map as_file ds }

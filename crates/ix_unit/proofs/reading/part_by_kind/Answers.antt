@@ -1,9 +1,9 @@
 use Rattle.std.proofs.Common.{◌≡◌, List, ◌++◌, [], ◌∷◌, ℕ, Some, None, refl, sym, ap, ◌∙◌}
 use Rattle.ix_unit.specs.declared.value.RecordDep.{RecordDep}
 use Rattle.ix_unit.specs.declared.value.FileDep.{FileDep}
-use Rattle.ix_unit.specs.Kinds.{as_unit, as_record, as_file}
+use Rattle.ix_unit.specs.ByKind.{as_unit, as_record, as_file}
 use Rattle.ix_unit.proofs.Merged.{gives_one, gives_none}
-use Rattle.ix_unit.proofs.reading.by_kind.Goals as goal
+use Rattle.ix_unit.proofs.reading.part_by_kind.Goals as goal
 
 pub loop-dependency-preserved-in-Continue-1 : goal.loop-dependency-preserved-in-Continue-1
 loop-dependency-preserved-in-Continue-1 c =
