@@ -1,7 +1,8 @@
-pub mod Found
-pub mod Held
-pub mod Looked
-pub mod Members
-pub mod Rising
-pub mod Rows
-pub mod Units
+pub mod AreaHoldsUnits
+pub mod HeldAfterAChange
+pub mod NamesRise
+pub mod OneUnitMore
+pub mod Publications
+pub mod StampsByName
+pub mod WhatAListSays
+pub mod WhichNamesChanged

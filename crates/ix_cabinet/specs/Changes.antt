@@ -3,8 +3,7 @@ use Rattle.std.specs.Prelude.{◌≡◌, ℕ, List, Bool, true, false, Option, R
 use Rattle.ix_dir.specs.declared.area.Area.TheVariants.{Units}
 use Rattle.ix_dir.specs.declared.moves.Move.{Move}
 use Rattle.ix_dir.specs.declared.moves.Move.TheVariants as move
-use Rattle.ix_dir.specs.Calls.{with_move, Renames, removed}
-use Rattle.ix_types.specs.declared.memory.Failed.{Failed}
+use Rattle.ix_dir.specs.Calls.{with_move, Renames}
 use Rattle.ix_cabinet.specs.declared.fault.StageError.{StageError}
 use Rattle.ix_cabinet.specs.declared.fault.StageError.TheVariants as stage
 use Rattle.ix_cabinet.specs.declared.change.Settled.{Settled}
@@ -21,15 +20,10 @@ pub record Publishes (settled : Settled) (name bytes : List ℕ) (before now : O
   pub renamed : Renames before between Units name bytes
   pub synced : now ≡ settled_by settled between
 
--- the unit went away, if it was there, with a sync behind that where it succeeded
-abbrev pub Removes : Settled → List ℕ → Option (List Move) → Option (List Move) → Type 0
-Removes settled name before now = now ≡ settled_by settled (removed before Units name)
-
--- a change that failed, or whose sync did
-abbrev pub failed_in_part : Result Settled Failed → Bool
-failed_in_part (Ok Synced) = false
-failed_in_part (Ok Unsynced) = true
-failed_in_part (Err e) = true
+-- the sync behind a change failed
+abbrev pub is_unsynced : Settled → Bool
+is_unsynced Synced = false
+is_unsynced Unsynced = true
 
 -- a unit file that wasn't made ready since the directory failed
 abbrev pub stage_failed : {X : Type 0} → Result X StageError → Bool

@@ -1,7 +1,6 @@
 -- What a scan of the units gives.
 use Rattle.std.specs.Prelude.{◌≡◌, ◌≢◌, ℕ, List, map, filter, Bool, true, false, not, Result, Ok, Err, Some, None, IsSome, nat_eq}
 use Rattle.std.specs.Coded.{Coded, coded_list, coded_ℕ}
-use Rattle.std.specs.List.Sorted.{IsStrictlySortedBy}
 use Rattle.std.specs.FinMap.{FinMap, entries, get, keys, contains_key, from_sorted, code}
 use Rattle.std.specs.Option.{option_eq}
 use Rattle.ix_cabinet.specs.declared.fault.ScanError.{ScanError}
@@ -9,7 +8,8 @@ use Rattle.ix_cabinet.specs.declared.fault.ScanError.TheVariants.{Fault, Lost, D
 use Rattle.ix_dir.specs.declared.area.Area.TheVariants.{Units}
 use Rattle.ix_dir.specs.declared.dir.Listed.{Listed}
 use Rattle.ix_dir.specs.declared.moves.Move.{Move}
-use Rattle.ix_dir.specs.Files.{Files, bytes_at, name_cmp}
+use Rattle.ix_dir.specs.Files.{Files, bytes_at, listed_at}
+use Rattle.ix_types.specs.Row.{text_cmp}
 use Rattle.ix_dir.specs.Moves.{area_after}
 use Rattle.ix_unit.specs.declared.batch.UnitPut.{UnitPut}
 use Rattle.ix_unit.specs.declared.value.UnitValue.{UnitValue}
@@ -18,7 +18,7 @@ use Rattle.ix_unit.specs.Value.{IsValidUnit}
 
 -- stamps by name
 abbrev pub StampMap : Type 0
-StampMap = FinMap name_cmp ℕ
+StampMap = FinMap text_cmp ℕ
 
 abbrev pub stamp_code : Coded StampMap
 stamp_code = code (coded_list coded_ℕ) coded_ℕ
@@ -26,14 +26,6 @@ stamp_code = code (coded_list coded_ℕ) coded_ℕ
 -- the stamp of each file
 abbrev pub stamps_in : Files → StampMap
 stamps_in files = from_sorted (map (λ e. (e.0, e.1.stamp)) (entries files))
-
--- a name and its stamp
-abbrev pub listed_at : List ℕ × ℕ → Listed
-listed_at entry = record { name = entry.0; stamp = entry.1 }
-
--- listed files as pairs of a name and a stamp
-abbrev pub rows_of : List Listed → List (List ℕ × ℕ)
-rows_of listed = map (λ l. (l.name, l.stamp)) listed
 
 -- the known stamp of the name is the one listed
 abbrev pub is_known : StampMap → Listed → Bool
@@ -76,10 +68,6 @@ pub record IsUnitAt (files : Files) (put : UnitPut) : Type 0 where
 pub record IsNamedUnit (name_of : List ℕ → List ℕ) (put : UnitPut) : Type 0 where
   pub valid : IsValidUnit put.unit.value
   pub named : put.name ≡ name_of put.unit.value.output
-
--- the names strictly rise
-abbrev pub IsRisingNames : List (List ℕ) → Type 0
-IsRisingNames = IsStrictlySortedBy name_cmp
 
 -- bytes that are those of a unit of this name
 pub record IsUnitFile (name_of : List ℕ → List ℕ) (name bytes : List ℕ) : Type 0 where

@@ -8,13 +8,16 @@ ghost use Rattle.ix_cabinet.specs.Fault.{stage_error, scan_error};
 use ix_dir::DirError;
 use ix_types::{FileName, Memory};
 use std::alloc::{AllocError, AllocFailed};
+use thiserror::Error;
 
 /// Why a unit file wasn't made ready.
-#[derive(Clone, Copy, Debug, PartialEq, Eq)]
+#[derive(Clone, Copy, Debug, Drop, PartialEq, Eq, Error)]
 pub enum StageError {
     /// The directory failed.
+    #[error("the directory failed")]
     Fault,
     /// Memory was wanting.
+    #[error("memory")]
     Memory,
 }
 
@@ -38,15 +41,19 @@ impl From<Memory> for StageError {
 }
 
 /// Why a scan gave nothing.
-#[derive(Clone, Copy, PartialEq, Eq)]
+#[derive(Clone, Copy, Debug, Drop, PartialEq, Eq, Error)]
 pub enum ScanError {
     /// The directory failed.
+    #[error("the directory failed")]
     Fault,
     /// A listed file gave nothing. Never over a directory that tells its moves.
+    #[error("no unit file {name:?}, which was listed")]
     Lost { name: FileName },
     /// A file is none of a unit of this name. Never over a directory that tells its moves.
+    #[error("the file {name:?} isn't that of a unit of this name")]
     Damaged { name: FileName },
     /// Memory was wanting.
+    #[error("memory")]
     Memory,
 }
 

@@ -9,7 +9,7 @@ mod stamps;
 
 pub use change::{Settled, publish_unit, remove_unit, stage_unit};
 pub use fault::{ScanError, StageError};
-pub use scanning::{Scanned, scan};
+pub use scanning::{Scanned, scan, scan_listed};
 pub use stamps::Stamps;
 
 #[cfg(test)]

@@ -1,11 +1,15 @@
 //! A look through the unit files for what changed.
-ghost use Rattle.std.specs.Prelude.{◌≡◌, ◌⊎◌, ◌≤◌, ℕ, List, [], ◌∷◌, ◌++◌, map, All, IsErrOf, IsSome, IfOk, IfErr, IfSome, OnOk, Err, None};
-ghost use Rattle.ix_types.specs.Count.{Rose};
+ghost use Rattle.std.specs.Prelude.{◌≡◌, ◌⊎◌, ℕ, List, [], ◌∷◌, ◌++◌, map, All, Contains, IsSome, IfOk, IfErr, IfSome, OnOk, Err, None};
+ghost use Rattle.std.specs.FinMap.{from_sorted};
+ghost use Rattle.std.specs.List.Sorted.{IsStrictlySortedBy};
+ghost use Rattle.ix_types.specs.Count.{counted};
+ghost use Rattle.ix_types.specs.Row.{text_cmp};
 ghost use Rattle.ix_dir.specs.declared.area.Area.TheVariants.{Units};
-ghost use Rattle.ix_dir.specs.Calls.{CountsWhere, SameSlots};
-ghost use Rattle.ix_dir.specs.Files.{bytes_at};
+ghost use Rattle.ix_dir.specs.Files.{bytes_at, rows_of, IsRising};
 ghost use Rattle.ix_dir.specs.Moves.{area_after};
-ghost use Rattle.ix_cabinet.specs.Scan.{stamps_in, unknown, changed, gone, scan_failed, StandsAt, IsUnitAt, IsNamedUnit, IsRisingNames, IsUnitFile, HoldsUnits};
+ghost use Rattle.ix_dir.specs.Stamps.{HasFreshStamps};
+ghost use Rattle.ix_dir.specs.State.{counted_where};
+ghost use Rattle.ix_cabinet.specs.Scan.{stamps_in, unknown, changed, gone, scan_failed, StandsAt, IsUnitAt, IsNamedUnit, IsUnitFile, HoldsUnits};
 ghost use Rattle.ix_unit.specs.Spelling.{UnitSpelling};
 
 use crate::fault::ScanError;
@@ -17,7 +21,7 @@ use std::alloc::Global;
 use std::sync::Arc;
 
 /// What changed among the unit files, and their stamps now.
-#[derive(Drop)]
+#[derive(Debug, Drop)]
 pub struct Scanned {
     pub batch: Batch,
     pub stamps: Stamps,
@@ -31,29 +35,55 @@ pub fn scan<D: Dir, N: Naming>(
     naming: &N,
     known: &Stamps,
 ) -> Result<Scanned, ScanError>
-    requires { IfSome (D.moves dir.old) (HoldsUnits N.name_of) }
+    requires { IfSome (D.state dir.old).moves (HoldsUnits N.name_of) }
     // The names of the units, and the names gone, by the stamps that are known and those that there are now.
     ensures changed { IfOk result (λ scanned. map (λ p. p.name) scanned.batch.puts ≡ changed known.now scanned.stamps) }
     ensures gone { IfOk result (λ scanned. scanned.batch.gone ≡ gone known.now scanned.stamps) }
-    ensures puts_rise { IfOk result (λ scanned. IsRisingNames (map (λ p. p.name) scanned.batch.puts)) }
-    ensures gone_rise { IfOk result (λ scanned. IsRisingNames scanned.batch.gone) }
+    ensures puts_rise { IfOk result (λ scanned. IsStrictlySortedBy text_cmp (map (λ p. p.name) scanned.batch.puts)) }
+    ensures gone_rise { IfOk result (λ scanned. IsStrictlySortedBy text_cmp scanned.batch.gone) }
     ensures units { IfOk result (λ scanned. All (IsNamedUnit N.name_of) scanned.batch.puts) }
-    ensures stamps { IfOk result (λ scanned. IfSome (D.moves dir.old) (λ m. scanned.stamps ≡ stamps_in (area_after m Units))) }
-    ensures at { IfOk result (λ scanned. IfSome (D.moves dir.old) (λ m. All (IsUnitAt (area_after m Units)) scanned.batch.puts)) }
-    // An answer comes from a list that was made.
-    ensures listed { OnOk result (Rose (D.listings dir.old) (D.listings dir.new)) }
-    ensures cause { CountsWhere (scan_failed result) (D.faults dir.old) (D.faults dir.new) }
-    ensures lost { (n : List ℕ) → result ≡ Err (ScanError.Lost n) → (D.moves dir.old ≡ None) × Rose (D.listings dir.old) (D.listings dir.new) }
-    ensures damaged { (n : List ℕ) → result ≡ Err (ScanError.Damaged n) → (D.moves dir.old ≡ None) × Rose (D.listings dir.old) (D.listings dir.new) }
-    ensures listings { D.listings dir.old ≤ D.listings dir.new }
-    ensures finds { D.finds dir.new ≡ D.finds dir.old }
-    ensures moves { D.moves dir.new ≡ D.moves dir.old }
-    ensures slots { SameSlots (D.staged dir.old) (D.slot_bytes dir.old) (D.staged dir.new) (D.slot_bytes dir.new) }
-    ensures spare { D.spare dir.new ≡ D.spare dir.old }
+
+    // What is said of the files, where the directory tells its moves.
+    ensures stamps { IfOk result (λ scanned. IfSome (D.state dir.old).moves (λ m. scanned.stamps ≡ stamps_in (area_after m Units))) }
+    ensures fresh { OnOk result (IfSome (D.state dir.old).moves HasFreshStamps) }
+    ensures at { IfOk result (λ scanned. IfSome (D.state dir.old).moves (λ m. All (IsUnitAt (area_after m Units)) scanned.batch.puts)) }
+
+    // Of the directory two counts alone change. An answer, and a file that is missing or isn't its unit's, come from a list that was made.
+    ensures state { D.state dir.new ≡ record (D.state dir.old) { faults = counted_where (scan_failed result) (D.state dir.old).faults; listings = (D.state dir.new).listings } }
+    ensures listed { OnOk result ((D.state dir.new).listings ≡ counted (D.state dir.old).listings) }
+    ensures lost { (n : List ℕ) → result ≡ Err (ScanError.Lost n) → ((D.state dir.old).moves ≡ None) × ((D.state dir.new).listings ≡ counted (D.state dir.old).listings) }
+    ensures damaged { (n : List ℕ) → result ≡ Err (ScanError.Damaged n) → ((D.state dir.old).moves ≡ None) × ((D.state dir.new).listings ≡ counted (D.state dir.old).listings) }
+    ensures once { ((D.state dir.new).listings ≡ (D.state dir.old).listings) ⊎ ((D.state dir.new).listings ≡ counted (D.state dir.old).listings) }
 {
     let listed = dir.list(alloc, Area::Units)?;
-    let puts = changed_units(alloc, dir, naming, known, listed.as_slice())?;
-    let stamps = Stamps::of(alloc, listed.as_slice())?;
+    scan_listed(alloc, dir, naming, known, listed.as_slice())
+}
+
+/// The same, by a list of the units area that was made. A file that is lost or damaged is a listed one.
+pub fn scan_listed<D: Dir, N: Naming>(
+    alloc: Global,
+    dir: &mut D,
+    naming: &N,
+    known: &Stamps,
+    listed: &[Listed],
+) -> Result<Scanned, ScanError>
+    requires rising { IsRising listed.now }
+    requires units { IfSome (D.state dir.old).moves (HoldsUnits N.name_of) }
+    requires stands { IfSome (D.state dir.old).moves (λ m. All (StandsAt (area_after m Units)) listed.now) }
+    ensures stamps { IfOk result (λ scanned. scanned.stamps ≡ from_sorted (rows_of listed.now)) }
+    ensures changed { IfOk result (λ scanned. map (λ p. p.name) scanned.batch.puts ≡ changed known.now scanned.stamps) }
+    ensures gone { IfOk result (λ scanned. scanned.batch.gone ≡ gone known.now scanned.stamps) }
+    ensures puts_rise { IfOk result (λ scanned. IsStrictlySortedBy text_cmp (map (λ p. p.name) scanned.batch.puts)) }
+    ensures gone_rise { IfOk result (λ scanned. IsStrictlySortedBy text_cmp scanned.batch.gone) }
+    ensures units { IfOk result (λ scanned. All (IsNamedUnit N.name_of) scanned.batch.puts) }
+    ensures at { IfOk result (λ scanned. IfSome (D.state dir.old).moves (λ m. All (IsUnitAt (area_after m Units)) scanned.batch.puts)) }
+
+    ensures lost { (n : List ℕ) → result ≡ Err (ScanError.Lost n) → ((D.state dir.old).moves ≡ None) × Contains (map (λ l. l.name) listed.now) n }
+    ensures damaged { (n : List ℕ) → result ≡ Err (ScanError.Damaged n) → ((D.state dir.old).moves ≡ None) × Contains (map (λ l. l.name) listed.now) n }
+    ensures state { D.state dir.new ≡ record (D.state dir.old) { faults = counted_where (scan_failed result) (D.state dir.old).faults } }
+{
+    let puts = changed_units(alloc, dir, naming, known, listed)?;
+    let stamps = Stamps::of(alloc, listed)?;
     let gone = known.lacking_in(alloc, &stamps)?;
     Ok(Scanned {
         batch: Batch {
@@ -72,19 +102,14 @@ fn changed_units<D: Dir, N: Naming>(
     known: &Stamps,
     listed: &[Listed],
 ) -> Result<Vec<UnitPut>, ScanError>
-    requires units { IfSome (D.moves dir.old) (HoldsUnits N.name_of) }
-    requires listed { IfSome (D.moves dir.old) (λ m. All (StandsAt (area_after m Units)) listed.now) }
+    requires units { IfSome (D.state dir.old).moves (HoldsUnits N.name_of) }
+    requires listed { IfSome (D.state dir.old).moves (λ m. All (StandsAt (area_after m Units)) listed.now) }
     ensures names { IfOk result (λ puts. map (λ p. p.name) puts.items ≡ map (λ l. l.name) (unknown known.now listed.now)) }
-    ensures at { IfOk result (λ puts. IfSome (D.moves dir.old) (λ m. All (IsUnitAt (area_after m Units)) puts.items)) }
+    ensures at { IfOk result (λ puts. IfSome (D.state dir.old).moves (λ m. All (IsUnitAt (area_after m Units)) puts.items)) }
     ensures units { IfOk result (λ puts. All (IsNamedUnit N.name_of) puts.items) }
-    ensures cause { CountsWhere (scan_failed result) (D.faults dir.old) (D.faults dir.new) }
-    ensures lost { (n : List ℕ) → result ≡ Err (ScanError.Lost n) → D.moves dir.old ≡ None }
-    ensures damaged { (n : List ℕ) → result ≡ Err (ScanError.Damaged n) → D.moves dir.old ≡ None }
-    ensures listings { D.listings dir.new ≡ D.listings dir.old }
-    ensures finds { D.finds dir.new ≡ D.finds dir.old }
-    ensures moves { D.moves dir.new ≡ D.moves dir.old }
-    ensures slots { SameSlots (D.staged dir.old) (D.slot_bytes dir.old) (D.staged dir.new) (D.slot_bytes dir.new) }
-    ensures spare { D.spare dir.new ≡ D.spare dir.old }
+    ensures lost { (n : List ℕ) → result ≡ Err (ScanError.Lost n) → ((D.state dir.old).moves ≡ None) × Contains (map (λ l. l.name) listed.now) n }
+    ensures damaged { (n : List ℕ) → result ≡ Err (ScanError.Damaged n) → ((D.state dir.old).moves ≡ None) × Contains (map (λ l. l.name) listed.now) n }
+    ensures state { D.state dir.new ≡ record (D.state dir.old) { faults = counted_where (scan_failed result) (D.state dir.old).faults } }
 {
     let mut puts = Vec::new(alloc);
     for one in listed {
@@ -102,19 +127,14 @@ fn note_changed<D: Dir, N: Naming>(
     one: &Listed,
     puts: &mut Vec<UnitPut>,
 ) -> Result<(), ScanError>
-    requires units { IfSome (D.moves dir.old) (HoldsUnits N.name_of) }
-    requires listed { IfSome (D.moves dir.old) (λ m. StandsAt (area_after m Units) one.now) }
+    requires units { IfSome ((D.state dir.old).moves) (HoldsUnits N.name_of) }
+    requires listed { IfSome ((D.state dir.old).moves) (λ m. StandsAt (area_after m Units) one.now) }
     ensures names { OnOk result (map (λ p. p.name) puts.new.items ≡ map (λ p. p.name) puts.old.items ++ map (λ l. l.name) (unknown known.now (one.now ∷ []))) }
-    ensures at { OnOk result (IfSome (D.moves dir.old) (λ m. All (IsUnitAt (area_after m Units)) puts.old.items → All (IsUnitAt (area_after m Units)) puts.new.items)) }
+    ensures at { OnOk result (IfSome ((D.state dir.old).moves) (λ m. All (IsUnitAt (area_after m Units)) puts.old.items → All (IsUnitAt (area_after m Units)) puts.new.items)) }
     ensures units { OnOk result (All (IsNamedUnit N.name_of) puts.old.items → All (IsNamedUnit N.name_of) puts.new.items) }
-    ensures cause { CountsWhere (scan_failed result) (D.faults dir.old) (D.faults dir.new) }
-    ensures lost { (n : List ℕ) → result ≡ Err (ScanError.Lost n) → (n ≡ one.now.name) × (D.moves dir.old ≡ None) }
-    ensures damaged { (n : List ℕ) → result ≡ Err (ScanError.Damaged n) → (n ≡ one.now.name) × (D.moves dir.old ≡ None) }
-    ensures listings { D.listings dir.new ≡ D.listings dir.old }
-    ensures finds { D.finds dir.new ≡ D.finds dir.old }
-    ensures moves { D.moves dir.new ≡ D.moves dir.old }
-    ensures slots { SameSlots (D.staged dir.old) (D.slot_bytes dir.old) (D.staged dir.new) (D.slot_bytes dir.new) }
-    ensures spare { D.spare dir.new ≡ D.spare dir.old }
+    ensures lost { (n : List ℕ) → result ≡ Err (ScanError.Lost n) → (n ≡ one.now.name) × ((D.state dir.old).moves ≡ None) }
+    ensures damaged { (n : List ℕ) → result ≡ Err (ScanError.Damaged n) → (n ≡ one.now.name) × ((D.state dir.old).moves ≡ None) }
+    ensures state { D.state dir.new ≡ record (D.state dir.old) { faults = counted_where (scan_failed result) (D.state dir.old).faults } }
 {
     if known.knows(one) {
         return Ok(());
@@ -134,18 +154,13 @@ fn unit_of<D: Dir, N: Naming>(
     naming: &N,
     name: FileName,
 ) -> Result<Arc<UnitValue>, ScanError>
-    requires units { IfSome (D.moves dir.old) (HoldsUnits N.name_of) }
-    requires listed { IfSome (D.moves dir.old) (λ m. IsSome (bytes_at (area_after m Units) name)) }
-    ensures at { IfOk result (λ unit. IfSome (D.moves dir.old) (λ m. IsUnitAt (area_after m Units) (record { name = name; unit = unit }))) }
+    requires units { IfSome ((D.state dir.old).moves) (HoldsUnits N.name_of) }
+    requires listed { IfSome ((D.state dir.old).moves) (λ m. IsSome (bytes_at (area_after m Units) name)) }
+    ensures at { IfOk result (λ unit. IfSome ((D.state dir.old).moves) (λ m. IsUnitAt (area_after m Units) (record { name = name; unit = unit }))) }
     ensures unit { IfOk result (λ unit. IsNamedUnit N.name_of (record { name = name; unit = unit })) }
-    ensures cause { CountsWhere (scan_failed result) (D.faults dir.old) (D.faults dir.new) }
-    ensures lost { (n : List ℕ) → result ≡ Err (ScanError.Lost n) → (n ≡ name) × (D.moves dir.old ≡ None) }
-    ensures damaged { (n : List ℕ) → result ≡ Err (ScanError.Damaged n) → (n ≡ name) × (D.moves dir.old ≡ None) }
-    ensures listings { D.listings dir.new ≡ D.listings dir.old }
-    ensures finds { D.finds dir.new ≡ D.finds dir.old }
-    ensures moves { D.moves dir.new ≡ D.moves dir.old }
-    ensures slots { SameSlots (D.staged dir.old) (D.slot_bytes dir.old) (D.staged dir.new) (D.slot_bytes dir.new) }
-    ensures spare { D.spare dir.new ≡ D.spare dir.old }
+    ensures lost { (n : List ℕ) → result ≡ Err (ScanError.Lost n) → (n ≡ name) × ((D.state dir.old).moves ≡ None) }
+    ensures damaged { (n : List ℕ) → result ≡ Err (ScanError.Damaged n) → (n ≡ name) × ((D.state dir.old).moves ≡ None) }
+    ensures state { D.state dir.new ≡ record (D.state dir.old) { faults = counted_where (scan_failed result) (D.state dir.old).faults } }
 {
     match dir.read(alloc, Area::Units, name)? {
         Some(bytes) => unit_in(alloc, naming, name, bytes.as_slice()),

@@ -4,7 +4,10 @@ ghost use Rattle.std.specs.FinMap.{empty, get, keys, contains_key, from_sorted};
 ghost use Rattle.std.specs.HashMap.{get as entry_of, keys as names_of};
 ghost use Rattle.ix_dir.specs.Files.{IsRising};
 ghost use Rattle.ix_dir.specs.Moves.{same_name};
-ghost use Rattle.ix_cabinet.specs.Scan.{rows_of, is_known, IsRisingNames};
+ghost use Rattle.ix_dir.specs.Files.{rows_of};
+ghost use Rattle.ix_cabinet.specs.Scan.{is_known};
+ghost use Rattle.std.specs.List.Sorted.{IsStrictlySortedBy};
+ghost use Rattle.ix_types.specs.Row.{text_cmp};
 
 use indexmap::IndexMap;
 use ix_dir::Listed;
@@ -13,7 +16,7 @@ use std::alloc::{AllocError, Global};
 use std::marker::Model;
 
 /// Stamps by the names of unit files.
-#[derive(Drop)]
+#[derive(Debug, Drop)]
 pub struct Stamps {
     /// In rising order of name.
     stamps: IndexMap<FileName, u64>,
@@ -22,7 +25,7 @@ pub struct Stamps {
 impl Model for Stamps {
     ghost use Rattle.std.specs.Prelude.{IsTrue};
     ghost use Rattle.std.specs.FinMap.{from_sorted, is_sorted};
-    ghost use Rattle.ix_dir.specs.Files.{name_cmp};
+    ghost use Rattle.ix_types.specs.Row.{text_cmp};
     ghost use Rattle.ix_cabinet.specs.Scan.{StampMap, stamp_code};
 
     ghost Value = { StampMap };
@@ -31,7 +34,7 @@ impl Model for Stamps {
 
     ghost view = { λ s. from_sorted s.stamps.entries };
 
-    ghost invariant = { λ s. IsTrue (is_sorted name_cmp s.stamps.entries) };
+    ghost invariant = { λ s. IsTrue (is_sorted text_cmp s.stamps.entries) };
 }
 
 impl Stamps {
@@ -74,7 +77,7 @@ impl Stamps {
         others: &Stamps,
     ) -> Result<Vec<FileName>, AllocError>
         ensures names { IfOk result (λ names. names.items ≡ filter (λ name. not (contains_key others.now name)) (keys self.now)) }
-        ensures rising { IfOk result (λ names. IsRisingNames names.items) }
+        ensures rising { IfOk result (λ names. IsStrictlySortedBy text_cmp names.items) }
     {
         lacking(alloc, &self.stamps, others)
     }

@@ -1,4 +1,5 @@
-ghost use Rattle.std.specs.Prelude.{◌≡◌, ◌<◌, IfSome, IfOk, OnOk};
+//! What changes and scans of unit files answer, and how many calls of the directory each takes.
+ghost use Rattle.std.specs.Prelude.{◌≡◌, IfSome};
 ghost use Rattle.ix_types.specs.Name.{sha_name};
 ghost use Rattle.ix_unit.specs.Value.{IsValidUnit};
 ghost use Rattle.ix_cabinet.specs.Scan.{HoldsUnits};
@@ -6,20 +7,25 @@ ghost use Rattle.ix_cabinet.specs.Scan.{HoldsUnits};
 use super::*;
 use ix_dir::{Area, Dir, MemoryDir, Pick, Reads, SteadyDir, UntoldDir};
 use ix_types::{Failed, FileName, Naming, Seq, Sha};
-use ix_unit::{Batch, UnitValue, decode};
-use std::alloc::{AllocError, Global};
+use ix_unit::{Batch, UnitPut, UnitValue, decode};
+use std::alloc::Global;
 use std::process::Abort;
 use std::test::Fail;
 
-/// The file of a unit of output `abc` and module `M`.
-const ABC: [u8; 158] = [
+/// The file of a unit of output `abc` and module `M`, but for its digest.
+const ABC: [u8; 126] = [
     73, 88, 85, 49, 0, 0, 0, 3, 97, 98, 99, 0, 0, 0, 7, 97, 46, 115, 119, 105, 102, 116, 0, 0, 0,
     1, 77, 0, 0, 0, 0, 0, 0, 0, 1, 0, 0, 0, 2, 0, 0, 0, 7, 97, 46, 115, 119, 105, 102, 116, 0, 0,
     0, 0, 0, 0, 0, 64, 57, 99, 52, 57, 56, 99, 97, 100, 102, 50, 48, 49, 52, 56, 55, 57, 102, 102,
     100, 56, 48, 99, 101, 55, 102, 56, 57, 102, 101, 97, 98, 56, 54, 97, 50, 48, 51, 50, 101, 48,
     98, 54, 98, 49, 48, 100, 54, 55, 54, 50, 56, 101, 48, 55, 56, 54, 50, 52, 97, 53, 54, 51, 102,
-    53, 0, 0, 0, 0, 137, 251, 82, 56, 69, 223, 144, 181, 175, 244, 98, 98, 248, 199, 227, 216, 135,
-    134, 149, 122, 161, 205, 114, 201, 201, 136, 82, 64, 201, 222, 188, 195,
+    53, 0, 0, 0, 0,
+];
+
+/// Its digest.
+const ABC_DIGEST: [u8; 32] = [
+    137, 251, 82, 56, 69, 223, 144, 181, 175, 244, 98, 98, 248, 199, 227, 216, 135, 134, 149, 122,
+    161, 205, 114, 201, 201, 136, 82, 64, 201, 222, 188, 195,
 ];
 
 /// The digest of that file with `d` in place of `c`, and so of output `abd`.
@@ -39,648 +45,387 @@ const ABC_NAME: &[u8] = b"ba7816bf8f01cfea414140de5dae2223b00361a396177a9cb410ff
 
 const ABD_NAME: &[u8] = b"a52d159f262b2c6ddb724a61840befc36eb30c88877a4030b65cbe86298449c9";
 
-/// The file with another byte and its digest.
-fn with_byte(alloc: Global, at: usize, byte: u8, digest: &[u8; 32]) -> Result<Vec<u8>, AllocError>
-    requires { at < 126 }
-{
-    let mut file = Vec::from_slice(alloc, &ABC[..126])?;
-    file[at] = byte;
-    file.extend_from_slice(digest)?;
-    Ok(file)
+/// The file with another byte, and its digest.
+fn file_with(alloc: Global, rt: &impl Abort, at: usize, byte: u8, digest: &[u8]) -> Vec<u8> {
+    let mut file = Vec::from_slice(alloc, &ABC).expect(rt, "memory");
+    if let Some(place) = file.get_mut(at) {
+        *place = byte;
+    }
+    file.extend_from_slice(digest).expect(rt, "memory");
+    file
 }
 
-/// The units of the tests: two of output `abc`, in modules `M` and `N`, and one of output `abd` in module `M`.
-#[derive(Clone, Copy)]
-enum Which {
-    Abc,
-    AbcInN,
-    Abd,
-}
-
-fn file_of(alloc: Global, which: Which) -> Result<Vec<u8>, AllocError> {
-    match which {
-        Which::Abc => Vec::from_slice(alloc, &ABC),
-        Which::AbcInN => with_byte(alloc, 26, b'N', &MODULE_N_DIGEST),
-        Which::Abd => with_byte(alloc, 10, b'd', &ABD_DIGEST),
+/// The files of the tests: `abc` and `abd` in module `M`, and `abc` in module `N`.
+fn file_of(alloc: Global, rt: &impl Abort, word: &str) -> Vec<u8> {
+    match word {
+        "abd" => file_with(alloc, rt, 10, b'd', &ABD_DIGEST),
+        "abcN" => file_with(alloc, rt, 26, b'N', &MODULE_N_DIGEST),
+        _ => file_with(alloc, rt, 26, b'M', &ABC_DIGEST),
     }
 }
 
-fn unit_of(alloc: Global, which: Which) -> Result<UnitValue, Fail>
-    ensures { IfOk result IsValidUnit }
+fn unit_of(alloc: Global, rt: &impl Abort, word: &str) -> UnitValue
+    ensures { IsValidUnit result }
 {
-    let file = file_of(alloc, which)?;
-    Ok(decode(alloc, &file)?)
+    decode(alloc, &file_of(alloc, rt, word)).expect(rt, "a unit")
 }
 
-fn named(rt: &impl Abort, digits: &[u8]) -> FileName {
+/// The name of a unit, or of one that went away.
+fn name_of(rt: &impl Abort, word: &str) -> FileName {
+    let digits = match word {
+        "abd" => ABD_NAME,
+        "-abd" => ABD_NAME,
+        _ => ABC_NAME,
+    };
     FileName::read(digits).expect(rt, "a name")
 }
 
-/// Stages a unit and publishes it under its name.
-fn publish<D: Dir>(
-    alloc: Global,
-    dir: &mut D,
-    unit: &UnitValue,
-) -> Result<Result<Settled, Failed>, Fail>
-    requires valid { IsValidUnit unit.now }
-    requires held { IfSome (D.moves dir.old) (HoldsUnits sha_name) }
-    ensures { OnOk result (IfSome (D.moves dir.new) (HoldsUnits sha_name)) }
+fn answered(answer: Result<Settled, Failed>) -> &'static str {
+    match answer {
+        Ok(Settled::Synced) => "synced",
+        Ok(Settled::Unsynced) => "unsynced",
+        Err(Failed) => "fault",
+    }
+}
+
+/// What a stage of a unit and its publication answer.
+fn publish<D: Dir>(alloc: Global, rt: &impl Abort, dir: &mut D, word: &str) -> &'static str
+    requires { IfSome (D.state dir.old).moves (HoldsUnits sha_name) }
+    ensures { IfSome (D.state dir.new).moves (HoldsUnits sha_name) }
 {
     laws::changes_keep_units();
-    stage_unit(alloc, dir, 0, unit)?;
-    dir.reserve(alloc, 2)?;
-    Ok(publish_unit(dir, 0, Sha.name(unit.output.bytes())))
+    let unit = unit_of(alloc, rt, word);
+    stage_unit(alloc, dir, 0, &unit).expect(rt, "a stage");
+    dir.reserve(alloc, 2).expect(rt, "room");
+    answered(publish_unit(dir, 0, Sha.name(unit.output.bytes())))
 }
 
-/// Takes the unit of a name away.
-fn remove<D: Dir>(
-    alloc: Global,
-    dir: &mut D,
-    name: FileName,
-) -> Result<Result<Settled, Failed>, Fail>
-    requires { IfSome (D.moves dir.old) (HoldsUnits sha_name) }
-    ensures { OnOk result (IfSome (D.moves dir.new) (HoldsUnits sha_name)) }
+fn remove<D: Dir>(alloc: Global, rt: &impl Abort, dir: &mut D, word: &str) -> &'static str
+    requires { IfSome (D.state dir.old).moves (HoldsUnits sha_name) }
+    ensures { IfSome (D.state dir.new).moves (HoldsUnits sha_name) }
 {
     laws::changes_keep_units();
-    dir.reserve(alloc, 2)?;
-    Ok(remove_unit(dir, name))
+    dir.reserve(alloc, 2).expect(rt, "room");
+    answered(remove_unit(dir, name_of(rt, word)))
 }
 
-/// The output of a name.
-fn output_of(name: &FileName) -> &'static [u8] {
-    if name.bytes() == ABC_NAME {
-        return b"abc";
+fn stage<D: Dir>(alloc: Global, rt: &impl Abort, dir: &mut D) -> &'static str
+    ensures { (D.state dir.new).moves ≡ (D.state dir.old).moves }
+{
+    let unit = unit_of(alloc, rt, "abc");
+    match stage_unit(alloc, dir, 0, &unit) {
+        Ok(()) => "done",
+        Err(StageError::Fault) => "fault",
+        Err(StageError::Memory) => "memory",
     }
-    if name.bytes() == ABD_NAME {
-        return b"abd";
-    }
-    b"?"
 }
 
-/// The output of each unit put and its module, and then the outputs gone.
-fn told(alloc: Global, scanned: &Scanned) -> Result<Vec<u8>, AllocError> {
-    let mut text = Vec::new(alloc);
-    for put in scanned.batch.puts.as_slice() {
-        text.extend_from_slice(b"+")?;
-        text.extend_from_slice(output_of(&put.name))?;
-        text.extend_from_slice(put.unit.module_name.bytes())?;
+fn list<D: Dir>(alloc: Global, dir: &mut D) -> &'static str
+    ensures { (D.state dir.new).moves ≡ (D.state dir.old).moves }
+{
+    match dir.list(alloc, Area::Records) {
+        Ok(_) => "done",
+        Err(_) => "fault",
     }
-    for name in scanned.batch.gone.as_slice() {
-        text.extend_from_slice(b"-")?;
-        text.extend_from_slice(output_of(name))?;
-    }
-    Ok(text)
 }
 
-/// A scan that is to tell this; the stamps that it gave.
-fn check_scan<D: Dir>(
-    alloc: Global,
-    rt: &impl Abort,
-    dir: &mut D,
-    known: &Stamps,
-    want: &[u8],
-) -> Result<Stamps, Fail>
-    requires { IfSome (D.moves dir.old) (HoldsUnits sha_name) }
-    ensures { D.moves dir.new ≡ D.moves dir.old }
+/// Checks a unit that a scan found.
+fn check_put(alloc: Global, rt: &impl Abort, put: &UnitPut, word: &str) {
+    assert!(rt; put.name == name_of(rt, word));
+    assert!(rt; *put.unit == unit_of(alloc, rt, word));
+}
+
+/// Checks that the batch has these units, and then these names gone, each of which begins with `-`.
+fn check_batch(alloc: Global, rt: &impl Abort, batch: &Batch, want: &str) {
+    if want.is_empty() {
+        assert!(rt; batch.puts.as_slice().is_empty());
+        assert!(rt; batch.gone.as_slice().is_empty());
+        return;
+    }
+    let mut words = want.split(',');
+    for put in batch.puts.as_slice() {
+        check_put(alloc, rt, put, words.next().expect(rt, "no more units"));
+    }
+    for name in batch.gone.as_slice() {
+        let word = words.next().expect(rt, "no more names");
+        assert!(rt; word.starts_with('-'));
+        assert!(rt; *name == name_of(rt, word));
+    }
+    assert!(rt; words.next().is_none());
+}
+
+fn error_of(rt: &impl Abort, word: &str) -> ScanError {
+    let name = name_of(rt, "abc");
+    match word {
+        "fault" => ScanError::Fault,
+        "lost" => ScanError::Lost { name },
+        "damaged" => ScanError::Damaged { name },
+        _ => ScanError::Memory,
+    }
+}
+
+/// A scan that gives this batch, or this error. The stamps that it gives are known then.
+fn check_scan<D: Dir>(alloc: Global, rt: &impl Abort, dir: &mut D, known: &mut Stamps, want: &str)
+    requires { IfSome (D.state dir.old).moves (HoldsUnits sha_name) }
+    ensures { (D.state dir.new).moves ≡ (D.state dir.old).moves }
 {
     match scan(alloc, dir, &Sha, known) {
         Ok(scanned) => {
-            let text = told(alloc, &scanned)?;
-            assert_eq!(rt; text.as_slice(), want);
-            let Scanned { batch: _, stamps } = scanned;
-            Ok(stamps)
+            let Scanned { batch, stamps } = scanned;
+            check_batch(alloc, rt, &batch, want);
+            *known = stamps;
         }
-        Err(_) => Err(Fail::new("no scan")),
+        Err(error) => assert!(rt; error == error_of(rt, want)),
     }
 }
 
-/// A publication that is to answer this.
-fn check_publish<D: Dir>(
-    alloc: Global,
-    rt: &impl Abort,
-    dir: &mut D,
-    which: Which,
-    want: Result<Settled, Failed>,
-) -> Result<(), Fail>
-    requires { IfSome (D.moves dir.old) (HoldsUnits sha_name) }
-    ensures { OnOk result (IfSome (D.moves dir.new) (HoldsUnits sha_name)) }
+/// Makes a call, and checks what it answers.
+fn check_call<D: Dir>(alloc: Global, rt: &impl Abort, dir: &mut D, known: &mut Stamps, call: &str)
+    requires { IfSome (D.state dir.old).moves (HoldsUnits sha_name) }
+    ensures { IfSome (D.state dir.new).moves (HoldsUnits sha_name) }
 {
-    let unit = unit_of(alloc, which)?;
-    let answer = publish(alloc, dir, &unit)?;
-    assert_eq!(rt; answer, want);
-    Ok(())
+    let (name, want) = call.split_once('=').expect(rt, "an answer");
+    match name {
+        "scan" => check_scan(alloc, rt, dir, known, want),
+        "stage" => assert_eq!(rt; stage(alloc, rt, dir), want),
+        "list" => assert_eq!(rt; list(alloc, dir), want),
+        "-abc" => assert_eq!(rt; remove(alloc, rt, dir, name), want),
+        "-abd" => assert_eq!(rt; remove(alloc, rt, dir, name), want),
+        _ => assert_eq!(rt; publish(alloc, rt, dir, name), want, "{call}"),
+    }
 }
 
-/// A removal that is to answer this.
-fn check_remove<D: Dir>(
-    alloc: Global,
-    rt: &impl Abort,
-    dir: &mut D,
-    digits: &[u8],
-    want: Result<Settled, Failed>,
-) -> Result<(), Fail>
-    requires { IfSome (D.moves dir.old) (HoldsUnits sha_name) }
-    ensures { OnOk result (IfSome (D.moves dir.new) (HoldsUnits sha_name)) }
+/// Makes the calls, each of which has what it is to answer behind it.
+fn check_calls<D: Dir>(alloc: Global, rt: &impl Abort, dir: &mut D, known: &mut Stamps, calls: &str)
+    requires { IfSome (D.state dir.old).moves (HoldsUnits sha_name) }
+    ensures { IfSome (D.state dir.new).moves (HoldsUnits sha_name) }
 {
-    let answer = remove(alloc, dir, named(rt, digits))?;
-    assert_eq!(rt; answer, want);
-    Ok(())
-}
-
-/// A scan with no stamps known that is to tell this; the stamps that it gave.
-fn check_first_scan<D: Dir>(
-    alloc: Global,
-    rt: &impl Abort,
-    dir: &mut D,
-    want: &[u8],
-) -> Result<Stamps, Fail>
-    requires { IfSome (D.moves dir.old) (HoldsUnits sha_name) }
-    ensures { D.moves dir.new ≡ D.moves dir.old }
-{
-    check_scan(alloc, rt, dir, &Stamps::new(alloc), want)
-}
-
-/// Why a scan gave nothing, None where it gave something.
-fn scan_error<D: Dir>(alloc: Global, dir: &mut D, known: &Stamps) -> Option<ScanError>
-    requires { IfSome (D.moves dir.old) (HoldsUnits sha_name) }
-    ensures { D.moves dir.new ≡ D.moves dir.old }
-{
-    scan(alloc, dir, &Sha, known).err()
+    for call in calls.split(' ') {
+        check_call(alloc, rt, dir, known, call);
+    }
 }
 
 /// An empty directory whose calls of these numbers fail.
-fn failing(alloc: Global, calls: &[u64]) -> Result<MemoryDir, AllocError>
-    ensures { IfOk result (λ dir. HoldsUnits sha_name dir.moves) }
-{
-    laws::an_empty_directory_holds_units();
-    let calls = Vec::from_slice(alloc, calls)?;
-    Ok(MemoryDir::failing(alloc, Seq::of(calls)))
-}
-
-/// An empty directory of which no call fails.
-fn steady(alloc: Global) -> SteadyDir
+fn failing(alloc: Global, rt: &impl Abort, calls: &[u64]) -> MemoryDir
     ensures { HoldsUnits sha_name result.moves }
 {
     laws::an_empty_directory_holds_units();
-    SteadyDir::new(alloc)
+    let calls = Vec::from_slice(alloc, calls).expect(rt, "memory");
+    MemoryDir::failing(alloc, Seq::of(calls))
 }
 
-/// An empty directory that doesn't tell its moves.
+/// Calls over a directory in memory, and the numbers of those that fail, 0 for none.
+#[derive(Clone, Copy)]
+struct Run {
+    fails: [u64; 3],
+    calls: &'static str,
+}
+
+const RUNS: [Run; 15] = [
+    // A unit whose sync failed is found, once.
+    Run {
+        fails: [3, 0, 0],
+        calls: "abc=unsynced scan=abc scan=",
+    },
+    // How many calls a stage makes, a publication behind its stage, and a removal.
+    Run {
+        fails: [2, 0, 0],
+        calls: "stage=done list=fault",
+    },
+    Run {
+        fails: [4, 0, 0],
+        calls: "abc=synced list=fault",
+    },
+    Run {
+        fails: [3, 4, 0],
+        calls: "abc=unsynced list=fault",
+    },
+    Run {
+        fails: [2, 3, 0],
+        calls: "abc=fault list=fault",
+    },
+    Run {
+        fails: [3, 0, 0],
+        calls: "-abc=synced list=fault",
+    },
+    Run {
+        fails: [2, 3, 0],
+        calls: "-abc=unsynced list=fault",
+    },
+    Run {
+        fails: [1, 2, 0],
+        calls: "-abc=fault list=fault",
+    },
+    // A scan makes one call, and one for each change.
+    Run {
+        fails: [10, 16, 18],
+        calls: "abc=synced abd=synced scan=abd,abc list=fault abcN=synced scan=abcN list=fault scan= list=fault",
+    },
+    // A second publication gives a new stamp.
+    Run {
+        fails: [0, 0, 0],
+        calls: "abc=synced scan=abc abc=synced scan=abc abcN=synced scan=abcN",
+    },
+    // Units and names gone rise: the name of `abd` is the lower one.
+    Run {
+        fails: [0, 0, 0],
+        calls: "abc=synced abd=synced scan=abd,abc -abc=synced -abd=synced scan=-abd,-abc",
+    },
+    // A change that fails changes nothing.
+    Run {
+        fails: [2, 0, 0],
+        calls: "abc=fault scan=",
+    },
+    Run {
+        fails: [4, 0, 0],
+        calls: "abc=synced -abc=fault scan=abc",
+    },
+    // A fault of the stage, of the list and of the read is answered.
+    Run {
+        fails: [1, 5, 7],
+        calls: "stage=fault abc=synced scan=fault scan=fault",
+    },
+    Run {
+        fails: [0, 0, 0],
+        calls: EACH,
+    },
+];
+
+/// Each call once: `abd` isn't there.
+const EACH: &str = "stage=done abc=synced scan=abc -abd=synced scan= -abc=synced scan=-abc";
+
+#[test]
+fn calls_answer_by_what_stands(rt: HostRuntime) {
+    let alloc = rt.alloc();
+    for run in &RUNS {
+        let mut dir = failing(alloc, &rt, &run.fails);
+        check_calls(alloc, &rt, &mut dir, &mut Stamps::new(alloc), run.calls);
+    }
+}
+
 fn untold(alloc: Global) -> UntoldDir {
     UntoldDir::new(MemoryDir::new(alloc), Reads::Whole)
 }
 
-/// A call made now is to fail.
-fn check_next_fails<D: Dir>(alloc: Global, rt: &impl Abort, dir: &mut D) -> Result<(), Fail>
-    ensures { D.moves dir.new ≡ D.moves dir.old }
-{
-    let fails = dir.list(alloc, Area::Records).is_err();
-    assert!(rt; fails);
-    Ok(())
-}
-
-/// Whether each field is the same.
-fn is_same(left: &UnitValue, right: &UnitValue) -> bool {
-    left.output == right.output
-        && left.main_file == right.main_file
-        && left.module_name == right.module_name
-        && left.system == right.system
-        && left.units == right.units
-        && left.records == right.records
-        && left.files == right.files
-        && left.includes == right.includes
-}
-
-/// A batch that is to have the unit `abc` alone.
-fn check_abc(alloc: Global, rt: &impl Abort, batch: &Batch) -> Result<(), Fail> {
-    let want = unit_of(alloc, Which::Abc)?;
-    assert!(rt; batch.gone.as_slice().is_empty());
-    assert_eq!(rt; batch.puts.as_slice().len(), 1);
-    for put in batch.puts.as_slice() {
-        assert_eq!(rt; put.name.bytes(), ABC_NAME);
-        assert!(rt; is_same(&put.unit, &want));
-    }
-    Ok(())
-}
-
-/// A scan with no stamps known that is to give the unit `abc` alone; the stamps that it gave.
-fn check_whole_abc<D: Dir>(alloc: Global, rt: &impl Abort, dir: &mut D) -> Result<Stamps, Fail>
-    requires { IfSome (D.moves dir.old) (HoldsUnits sha_name) }
-    ensures { D.moves dir.new ≡ D.moves dir.old }
-{
-    match scan(alloc, dir, &Sha, &Stamps::new(alloc)) {
-        Ok(scanned) => {
-            let Scanned { batch, stamps } = scanned;
-            check_abc(alloc, rt, &batch)?;
-            Ok(stamps)
-        }
-        Err(_) => Err(Fail::new("no scan")),
-    }
-}
-
-fn find_unsynced<D: Dir>(alloc: Global, rt: &impl Abort, dir: &mut D) -> Result<(), Fail>
-    requires { IfSome (D.moves dir.old) (HoldsUnits sha_name) }
-{
-    check_publish(alloc, rt, dir, Which::Abc, Ok(Settled::Unsynced))?;
-    let stamps = check_whole_abc(alloc, rt, dir)?;
-    let _same = check_scan(alloc, rt, dir, &stamps, b"")?;
-    Ok(())
-}
-
 #[test]
-fn a_unit_whose_sync_failed_is_found(rt: HostRuntime) -> Result<(), Fail> {
+fn each_directory_answers_each_call(rt: HostRuntime) {
     let alloc = rt.alloc();
-    let mut dir = failing(alloc, &[3])?;
-    find_unsynced(alloc, &rt, &mut dir)
+    laws::an_empty_directory_holds_units();
+    check_calls(
+        alloc,
+        &rt,
+        &mut SteadyDir::new(alloc),
+        &mut Stamps::new(alloc),
+        EACH,
+    );
+    check_calls(
+        alloc,
+        &rt,
+        &mut untold(alloc),
+        &mut Stamps::new(alloc),
+        EACH,
+    );
 }
 
-/// The module of the unit `abc` that a crash leaves is to be this, or `-` where there is none.
-fn check_left(
-    alloc: Global,
-    rt: &impl Abort,
-    dir: &MemoryDir,
-    pick: Pick,
-    want: &[u8],
-) -> Result<(), Fail> {
-    let mut left = dir.stopped(alloc, pick)?;
-    match left.read(alloc, Area::Units, named(rt, ABC_NAME))? {
-        Some(bytes) => {
-            let unit = decode(alloc, bytes.as_slice())?;
-            assert_eq!(rt; unit.module_name.bytes(), want, "at {pick:?}");
-        }
-        None => assert_eq!(rt; want, b"-".as_slice(), "at {pick:?}"),
+/// Checks which file a crash leaves under the name of `abc`, `-` for none.
+fn check_left(alloc: Global, rt: &impl Abort, dir: &MemoryDir, pick: Pick, want: &str) {
+    let mut left = dir.stopped(alloc, pick).expect(rt, "memory");
+    let found = left
+        .read(alloc, Area::Units, name_of(rt, "abc"))
+        .expect(rt, "a read");
+    match found {
+        Some(bytes) => assert!(rt; bytes.as_slice() == file_of(alloc, rt, want).as_slice()),
+        None => assert_eq!(rt; want, "-", "at {pick:?}"),
     }
-    Ok(())
 }
 
-/// What crashes leave of the unit `abc` at the oldest pick, and at later ones.
-fn check_images(
-    alloc: Global,
-    rt: &impl Abort,
-    dir: &MemoryDir,
-    oldest: &[u8],
-    later: &[u8],
-) -> Result<(), Fail> {
-    check_left(alloc, rt, dir, Pick::Oldest, oldest)?;
-    check_left(alloc, rt, dir, Pick::Nth(1), later)?;
-    check_left(alloc, rt, dir, Pick::Newest, later)
+/// What crashes leave at the oldest pick, and at later ones.
+fn check_images(alloc: Global, rt: &impl Abort, dir: &MemoryDir, oldest: &str, later: &str) {
+    check_left(alloc, rt, dir, Pick::Oldest, oldest);
+    check_left(alloc, rt, dir, Pick::Nth(1), later);
+    check_left(alloc, rt, dir, Pick::Newest, later);
 }
 
 /// The third call and the eighth are the syncs that fail.
-fn publish_and_stop(alloc: Global, rt: &impl Abort, dir: &mut MemoryDir) -> Result<(), Fail>
-    requires { HoldsUnits sha_name dir.old.moves }
-    ensures { OnOk result (HoldsUnits sha_name dir.new.moves) }
-{
-    check_publish(alloc, rt, dir, Which::Abc, Ok(Settled::Unsynced))?;
-    check_images(alloc, rt, dir, b"-", b"M")
-}
-
-fn publish_again_and_stop(alloc: Global, rt: &impl Abort, dir: &mut MemoryDir) -> Result<(), Fail>
-    requires { HoldsUnits sha_name dir.old.moves }
-    ensures { OnOk result (HoldsUnits sha_name dir.new.moves) }
-{
-    check_publish(alloc, rt, dir, Which::AbcInN, Ok(Settled::Synced))?;
-    check_images(alloc, rt, dir, b"N", b"N")
-}
-
-fn remove_and_stop(alloc: Global, rt: &impl Abort, dir: &mut MemoryDir) -> Result<(), Fail>
-    requires { HoldsUnits sha_name dir.old.moves }
-    ensures { OnOk result (HoldsUnits sha_name dir.new.moves) }
-{
-    check_remove(alloc, rt, dir, ABC_NAME, Ok(Settled::Unsynced))?;
-    check_images(alloc, rt, dir, b"N", b"-")
-}
-
-fn remove_again_and_stop(alloc: Global, rt: &impl Abort, dir: &mut MemoryDir) -> Result<(), Fail>
-    requires { HoldsUnits sha_name dir.old.moves }
-{
-    check_remove(alloc, rt, dir, ABC_NAME, Ok(Settled::Synced))?;
-    check_images(alloc, rt, dir, b"-", b"-")
-}
-
 #[test]
-fn a_crash_leaves_an_unsynced_change_or_not(rt: HostRuntime) -> Result<(), Fail> {
+fn a_crash_leaves_an_unsynced_change_or_not(rt: HostRuntime) {
     let alloc = rt.alloc();
-    let mut dir = failing(alloc, &[3, 8])?;
-    publish_and_stop(alloc, &rt, &mut dir)?;
-    publish_again_and_stop(alloc, &rt, &mut dir)?;
-    remove_and_stop(alloc, &rt, &mut dir)?;
-    remove_again_and_stop(alloc, &rt, &mut dir)
-}
-
-fn stage_then_fail<D: Dir>(alloc: Global, rt: &impl Abort, dir: &mut D) -> Result<(), Fail> {
-    let unit = unit_of(alloc, Which::Abc)?;
-    stage_unit(alloc, dir, 0, &unit)?;
-    check_next_fails(alloc, rt, dir)
-}
-
-fn publish_then_fail<D: Dir>(
-    alloc: Global,
-    rt: &impl Abort,
-    dir: &mut D,
-    want: Result<Settled, Failed>,
-) -> Result<(), Fail>
-    requires { IfSome (D.moves dir.old) (HoldsUnits sha_name) }
-{
-    check_publish(alloc, rt, dir, Which::Abc, want)?;
-    check_next_fails(alloc, rt, dir)
-}
-
-fn remove_then_fail<D: Dir>(
-    alloc: Global,
-    rt: &impl Abort,
-    dir: &mut D,
-    want: Result<Settled, Failed>,
-) -> Result<(), Fail>
-    requires { IfSome (D.moves dir.old) (HoldsUnits sha_name) }
-{
-    check_remove(alloc, rt, dir, ABC_NAME, want)?;
-    check_next_fails(alloc, rt, dir)
-}
-
-fn check_publish_count(
-    alloc: Global,
-    rt: &impl Abort,
-    calls: &[u64],
-    want: Result<Settled, Failed>,
-) -> Result<(), Fail> {
-    let mut dir = failing(alloc, calls)?;
-    publish_then_fail(alloc, rt, &mut dir, want)
-}
-
-fn check_remove_count(
-    alloc: Global,
-    rt: &impl Abort,
-    calls: &[u64],
-    want: Result<Settled, Failed>,
-) -> Result<(), Fail> {
-    let mut dir = failing(alloc, calls)?;
-    remove_then_fail(alloc, rt, &mut dir, want)
-}
-
-/// The last of the numbers is that of the call behind a stage.
-#[test]
-fn a_stage_makes_one_call(rt: HostRuntime) -> Result<(), Fail> {
-    let alloc = rt.alloc();
-    let mut dir = failing(alloc, &[2])?;
-    stage_then_fail(alloc, &rt, &mut dir)
-}
-
-/// The last of the numbers is that of the call behind a stage and a publication.
-#[test]
-fn a_publication_makes_two_calls_and_one_where_it_fails(rt: HostRuntime) -> Result<(), Fail> {
-    let alloc = rt.alloc();
-    check_publish_count(alloc, &rt, &[4], Ok(Settled::Synced))?;
-    check_publish_count(alloc, &rt, &[3, 4], Ok(Settled::Unsynced))?;
-    check_publish_count(alloc, &rt, &[2, 3], Err(Failed))
-}
-
-/// The last of the numbers is that of the call behind a removal.
-#[test]
-fn a_removal_makes_two_calls_and_one_where_it_fails(rt: HostRuntime) -> Result<(), Fail> {
-    let alloc = rt.alloc();
-    check_remove_count(alloc, &rt, &[3], Ok(Settled::Synced))?;
-    check_remove_count(alloc, &rt, &[2, 3], Ok(Settled::Unsynced))?;
-    check_remove_count(alloc, &rt, &[1, 2], Err(Failed))
-}
-
-/// Publishes `abc` and then `abd`.
-fn publish_two<D: Dir>(alloc: Global, rt: &impl Abort, dir: &mut D) -> Result<(), Fail>
-    requires { IfSome (D.moves dir.old) (HoldsUnits sha_name) }
-    ensures { OnOk result (IfSome (D.moves dir.new) (HoldsUnits sha_name)) }
-{
-    check_publish(alloc, rt, dir, Which::Abc, Ok(Settled::Synced))?;
-    check_publish(alloc, rt, dir, Which::Abd, Ok(Settled::Synced))
-}
-
-/// Nine calls, and one that fails.
-fn scan_all<D: Dir>(alloc: Global, rt: &impl Abort, dir: &mut D) -> Result<Stamps, Fail>
-    requires { IfSome (D.moves dir.old) (HoldsUnits sha_name) }
-    ensures { OnOk result (IfSome (D.moves dir.new) (HoldsUnits sha_name)) }
-{
-    publish_two(alloc, rt, dir)?;
-    let stamps = check_first_scan(alloc, rt, dir, b"+abdM+abcM")?;
-    check_next_fails(alloc, rt, dir)?;
-    Ok(stamps)
-}
-
-/// Five calls, and one that fails; and then a call, and one that fails.
-fn scan_one_and_none<D: Dir>(
-    alloc: Global,
-    rt: &impl Abort,
-    dir: &mut D,
-    stamps: &Stamps,
-) -> Result<(), Fail>
-    requires { IfSome (D.moves dir.old) (HoldsUnits sha_name) }
-{
-    check_publish(alloc, rt, dir, Which::AbcInN, Ok(Settled::Synced))?;
-    let stamps = check_scan(alloc, rt, dir, stamps, b"+abcN")?;
-    check_next_fails(alloc, rt, dir)?;
-    let _same = check_scan(alloc, rt, dir, &stamps, b"")?;
-    check_next_fails(alloc, rt, dir)
-}
-
-#[test]
-fn a_scan_makes_a_call_and_one_for_each_change(rt: HostRuntime) -> Result<(), Fail> {
-    let alloc = rt.alloc();
-    let mut dir = failing(alloc, &[10, 16, 18])?;
-    let stamps = scan_all(alloc, &rt, &mut dir)?;
-    scan_one_and_none(alloc, &rt, &mut dir, &stamps)
-}
-
-fn publish_and_find<D: Dir>(
-    alloc: Global,
-    rt: &impl Abort,
-    dir: &mut D,
-    which: Which,
-    known: &Stamps,
-    want: &[u8],
-) -> Result<Stamps, Fail>
-    requires { IfSome (D.moves dir.old) (HoldsUnits sha_name) }
-    ensures { OnOk result (IfSome (D.moves dir.new) (HoldsUnits sha_name)) }
-{
-    check_publish(alloc, rt, dir, which, Ok(Settled::Synced))?;
-    check_scan(alloc, rt, dir, known, want)
-}
-
-fn publish_thrice<D: Dir>(alloc: Global, rt: &impl Abort, dir: &mut D) -> Result<(), Fail>
-    requires { IfSome (D.moves dir.old) (HoldsUnits sha_name) }
-{
-    let stamps = publish_and_find(alloc, rt, dir, Which::Abc, &Stamps::new(alloc), b"+abcM")?;
-    let stamps = publish_and_find(alloc, rt, dir, Which::Abc, &stamps, b"+abcM")?;
-    let _last = publish_and_find(alloc, rt, dir, Which::AbcInN, &stamps, b"+abcN")?;
-    Ok(())
-}
-
-#[test]
-fn a_second_publication_gives_a_new_stamp(rt: HostRuntime) -> Result<(), Fail> {
-    let alloc = rt.alloc();
-    let mut dir = failing(alloc, &[])?;
-    publish_thrice(alloc, &rt, &mut dir)
-}
-
-fn remove_and_find<D: Dir>(
-    alloc: Global,
-    rt: &impl Abort,
-    dir: &mut D,
-    digits: &[u8],
-    known: &Stamps,
-    want: &[u8],
-) -> Result<Stamps, Fail>
-    requires { IfSome (D.moves dir.old) (HoldsUnits sha_name) }
-    ensures { OnOk result (IfSome (D.moves dir.new) (HoldsUnits sha_name)) }
-{
-    check_remove(alloc, rt, dir, digits, Ok(Settled::Synced))?;
-    check_scan(alloc, rt, dir, known, want)
-}
-
-/// Each call once, through the bound: `abd` isn't there.
-fn each_call<D: Dir>(alloc: Global, rt: &impl Abort, dir: &mut D) -> Result<(), Fail>
-    requires { IfSome (D.moves dir.old) (HoldsUnits sha_name) }
-{
-    let stamps = publish_and_find(alloc, rt, dir, Which::Abc, &Stamps::new(alloc), b"+abcM")?;
-    let stamps = remove_and_find(alloc, rt, dir, ABD_NAME, &stamps, b"")?;
-    let _none = remove_and_find(alloc, rt, dir, ABC_NAME, &stamps, b"-abc")?;
-    Ok(())
-}
-
-#[test]
-fn each_directory_answers_each_call(rt: HostRuntime) -> Result<(), Fail> {
-    let alloc = rt.alloc();
-    let mut dir = failing(alloc, &[])?;
-    each_call(alloc, &rt, &mut dir)?;
-    each_call(alloc, &rt, &mut steady(alloc))?;
-    each_call(alloc, &rt, &mut untold(alloc))
-}
-
-fn remove_two<D: Dir>(alloc: Global, rt: &impl Abort, dir: &mut D) -> Result<(), Fail>
-    requires { IfSome (D.moves dir.old) (HoldsUnits sha_name) }
-{
-    publish_two(alloc, rt, dir)?;
-    let stamps = check_first_scan(alloc, rt, dir, b"+abdM+abcM")?;
-    check_remove(alloc, rt, dir, ABC_NAME, Ok(Settled::Synced))?;
-    let _none = remove_and_find(alloc, rt, dir, ABD_NAME, &stamps, b"-abd-abc")?;
-    Ok(())
-}
-
-/// The name of `abd` is the lower one.
-#[test]
-fn puts_and_gone_names_rise(rt: HostRuntime) -> Result<(), Fail> {
-    let alloc = rt.alloc();
-    let mut dir = failing(alloc, &[])?;
-    remove_two(alloc, &rt, &mut dir)
-}
-
-fn fail_to_rename<D: Dir>(alloc: Global, rt: &impl Abort, dir: &mut D) -> Result<(), Fail>
-    requires { IfSome (D.moves dir.old) (HoldsUnits sha_name) }
-{
-    check_publish(alloc, rt, dir, Which::Abc, Err(Failed))?;
-    let _none = check_first_scan(alloc, rt, dir, b"")?;
-    Ok(())
-}
-
-fn fail_to_remove<D: Dir>(alloc: Global, rt: &impl Abort, dir: &mut D) -> Result<(), Fail>
-    requires { IfSome (D.moves dir.old) (HoldsUnits sha_name) }
-{
-    check_publish(alloc, rt, dir, Which::Abc, Ok(Settled::Synced))?;
-    check_remove(alloc, rt, dir, ABC_NAME, Err(Failed))?;
-    let _same = check_first_scan(alloc, rt, dir, b"+abcM")?;
-    Ok(())
-}
-
-#[test]
-fn a_change_that_fails_changes_nothing(rt: HostRuntime) -> Result<(), Fail> {
-    let alloc = rt.alloc();
-    let mut dir = failing(alloc, &[2])?;
-    fail_to_rename(alloc, &rt, &mut dir)?;
-    let mut dir = failing(alloc, &[4])?;
-    fail_to_remove(alloc, &rt, &mut dir)
-}
-
-/// The stage fails, and later a list and a read.
-fn fail_elsewhere<D: Dir>(alloc: Global, rt: &impl Abort, dir: &mut D) -> Result<(), Fail>
-    requires { IfSome (D.moves dir.old) (HoldsUnits sha_name) }
-{
-    let unit = unit_of(alloc, Which::Abc)?;
-    assert_eq!(rt; stage_unit(alloc, dir, 0, &unit), Err(StageError::Fault));
-    check_publish(alloc, rt, dir, Which::Abc, Ok(Settled::Synced))?;
-    let none = Stamps::new(alloc);
-    assert!(rt; scan_error(alloc, dir, &none) == Some(ScanError::Fault));
-    assert!(rt; scan_error(alloc, dir, &none) == Some(ScanError::Fault));
-    Ok(())
-}
-
-#[test]
-fn a_fault_is_answered(rt: HostRuntime) -> Result<(), Fail> {
-    let alloc = rt.alloc();
-    let mut dir = failing(alloc, &[1, 5, 7])?;
-    fail_elsewhere(alloc, &rt, &mut dir)
+    let mut dir = failing(alloc, &rt, &[3, 8]);
+    let mut known = Stamps::new(alloc);
+    check_calls(alloc, &rt, &mut dir, &mut known, "abc=unsynced");
+    check_images(alloc, &rt, &dir, "-", "abc");
+    check_calls(alloc, &rt, &mut dir, &mut known, "abcN=synced");
+    check_images(alloc, &rt, &dir, "abcN", "abcN");
+    check_calls(alloc, &rt, &mut dir, &mut known, "-abc=unsynced");
+    check_images(alloc, &rt, &dir, "abcN", "-");
+    check_calls(alloc, &rt, &mut dir, &mut known, "-abc=synced");
+    check_images(alloc, &rt, &dir, "-", "-");
 }
 
 /// Reads `abc`, the second of two units, in this way.
-fn check_wrong_read(
-    alloc: Global,
-    rt: &impl Abort,
-    dir: &mut UntoldDir,
-    reads: Reads,
-    want: ScanError,
-) -> Result<(), Fail> {
-    let stamps = publish_and_find(alloc, rt, dir, Which::Abd, &Stamps::new(alloc), b"+abdM")?;
-    check_publish(alloc, rt, dir, Which::Abc, Ok(Settled::Synced))?;
+fn check_wrong_read(alloc: Global, rt: &impl Abort, reads: Reads, want: &str) {
+    let mut dir = untold(alloc);
+    let mut known = Stamps::new(alloc);
+    check_calls(
+        alloc,
+        rt,
+        &mut dir,
+        &mut known,
+        "abd=synced scan=abd abc=synced",
+    );
     dir.set_reads(reads);
-    assert!(rt; scan_error(alloc, dir, &stamps) == Some(want));
-    Ok(())
+    check_calls(alloc, rt, &mut dir, &mut known, want);
 }
 
 #[test]
-fn a_file_that_gives_nothing_is_lost(rt: HostRuntime) -> Result<(), Fail> {
+fn a_file_that_reads_wrongly_is_lost_or_damaged(rt: HostRuntime) {
     let alloc = rt.alloc();
-    let name = named(&rt, ABC_NAME);
+    check_wrong_read(alloc, &rt, Reads::Nothing, "scan=lost");
+    check_wrong_read(alloc, &rt, Reads::ByteLess, "scan=damaged");
+}
+
+/// The file of `abd` stands at the name of `abc`.
+#[test]
+fn a_unit_of_another_name_is_damaged(rt: HostRuntime) {
+    let alloc = rt.alloc();
     let mut dir = untold(alloc);
-    check_wrong_read(
-        alloc,
-        &rt,
-        &mut dir,
-        Reads::Nothing,
-        ScanError::Lost { name },
-    )
+    let mut known = Stamps::new(alloc);
+    check_calls(alloc, &rt, &mut dir, &mut known, "abd=synced");
+    let unit = unit_of(alloc, &rt, "abd");
+    stage_unit(alloc, &mut dir, 0, &unit).expect(&rt, "a stage");
+    dir.reserve(alloc, 2).expect(&rt, "room");
+    assert_eq!(rt;
+        answered(publish_unit(&mut dir, 0, name_of(&rt, "abc"))),
+        "synced"
+    );
+    check_calls(alloc, &rt, &mut dir, &mut known, "scan=damaged");
 }
 
 #[test]
-fn a_file_a_byte_short_is_damaged(rt: HostRuntime) -> Result<(), Fail> {
+fn errors_have_texts(rt: HostRuntime) -> Result<(), Fail> {
     let alloc = rt.alloc();
-    let name = named(&rt, ABC_NAME);
-    let mut dir = untold(alloc);
-    check_wrong_read(
-        alloc,
-        &rt,
-        &mut dir,
-        Reads::ByteLess,
-        ScanError::Damaged { name },
-    )
-}
-
-/// Puts the file of `abd` at the name of `abc`.
-fn misname(alloc: Global, dir: &mut UntoldDir, name: FileName) -> Result<(), Fail> {
-    let unit = unit_of(alloc, Which::Abd)?;
-    stage_unit(alloc, dir, 0, &unit)?;
-    dir.reserve(alloc, 2)?;
-    let _settled = publish_unit(dir, 0, name)?;
+    let name = FileName::read(b"ab").expect(&rt, "a name");
+    let stages = [
+        (StageError::Fault, "the directory failed"),
+        (StageError::Memory, "memory"),
+    ];
+    for (error, want) in stages {
+        assert_eq!(rt; format!(in alloc; "{error}")?.as_str(), want);
+    }
+    let scans = [
+        (ScanError::Fault, "the directory failed"),
+        (
+            ScanError::Lost { name },
+            "no unit file \"ab\", which was listed",
+        ),
+        (
+            ScanError::Damaged { name },
+            "the file \"ab\" isn't that of a unit of this name",
+        ),
+        (ScanError::Memory, "memory"),
+    ];
+    for (error, want) in scans {
+        assert_eq!(rt; format!(in alloc; "{error}")?.as_str(), want);
+    }
     Ok(())
-}
-
-fn check_misnamed(alloc: Global, rt: &impl Abort, dir: &mut UntoldDir) -> Result<(), Fail> {
-    let name = named(rt, ABC_NAME);
-    check_publish(alloc, rt, dir, Which::Abd, Ok(Settled::Synced))?;
-    misname(alloc, dir, name)?;
-    let error = scan_error(alloc, dir, &Stamps::new(alloc));
-    assert!(rt; error == Some(ScanError::Damaged { name }));
-    Ok(())
-}
-
-#[test]
-fn a_unit_of_another_name_is_damaged(rt: HostRuntime) -> Result<(), Fail> {
-    let alloc = rt.alloc();
-    let mut dir = untold(alloc);
-    check_misnamed(alloc, &rt, &mut dir)
 }

@@ -41,14 +41,6 @@ put_failed (Err Fault) = true
 put_failed (Err (Clash name)) = false
 put_failed (Err Memory) = false
 
--- the answers after which a file that was read stands there as before
-abbrev pub leaves_file : Result Put PutError → Bool
-leaves_file (Ok Written) = false
-leaves_file (Ok Shared) = true
-leaves_file (Err Fault) = false
-leaves_file (Err (Clash name)) = true
-leaves_file (Err Memory) = false
-
 -- a load that failed
 abbrev pub load_failed : {X : Type 0} → Result X LoadError → Bool
 load_failed (Ok value) = false

@@ -8,15 +8,19 @@ ghost use Rattle.ix_shelf.specs.Fault.{put_error, load_error};
 use ix_dir::DirError;
 use ix_types::{Failed, FileName};
 use std::alloc::{AllocError, AllocFailed};
+use thiserror::Error;
 
 /// Why a record file wasn't put.
-#[derive(Clone, Copy, PartialEq, Eq)]
+#[derive(Clone, Copy, Debug, Drop, PartialEq, Eq, Error)]
 pub enum PutError {
     /// The directory failed.
+    #[error("the directory failed")]
     Fault,
     /// Other bytes stand under the name, which is protected.
+    #[error("other bytes stand under the protected name {name:?}")]
     Clash { name: FileName },
     /// Memory was wanting.
+    #[error("memory")]
     Memory,
 }
 
@@ -40,15 +44,19 @@ impl From<Failed> for PutError {
 }
 
 /// Why a record file wasn't read.
-#[derive(Clone, Copy, PartialEq, Eq)]
+#[derive(Clone, Copy, Debug, Drop, PartialEq, Eq, Error)]
 pub enum LoadError {
     /// The directory failed.
+    #[error("the directory failed")]
     Fault,
     /// There is no such file. Never over a directory that tells its moves.
+    #[error("no record file {name:?}")]
     Lost { name: FileName },
     /// The file isn't what its name says. Never over a directory that tells its moves.
+    #[error("the record file {name:?} isn't what its name says")]
     Damaged { name: FileName },
     /// Memory was wanting.
+    #[error("memory")]
     Memory,
 }
 

@@ -1,13 +1,14 @@
 //! Record files on a directory.
-ghost use Rattle.std.specs.Prelude.{◌≡◌, ◌≢◌, ◌⊎◌, ◌+◌, ◌<◌, ◌≤◌, ℕ, List, true, false, if◌then◌else◌, is_err, IsTrue, IfOk, IfSome, OnOk, OnErr, Ok, Err, Some, None};
-ghost use Rattle.ix_types.specs.Count.{Rose};
+ghost use Rattle.std.specs.Prelude.{◌≡◌, ◌≢◌, ◌⊎◌, ◌+◌, ◌<◌, ℕ, List, true, false, if◌then◌else◌, IfOk, IfSome, OnOk, OnErr, Ok, Err, Some, None};
+ghost use Rattle.ix_types.specs.Count.{counted};
 ghost use Rattle.ix_dir.specs.declared.area.Area.{Area};
 ghost use Rattle.ix_dir.specs.declared.area.Area.TheVariants.{Records};
-ghost use Rattle.ix_dir.specs.Calls.{with_move, Renames, removed, CountsWhere, SameSlots, OtherSlotsStay};
-ghost use Rattle.ix_dir.specs.Leaves.{LeavesAt, AddsTo, IfTold};
+ghost use Rattle.ix_dir.specs.Calls.{with_move, Renames, removed, after_rename};
+ghost use Rattle.ix_dir.specs.State.{spent, failed, with_slot, counted_where};
+ghost use Rattle.ix_dir.specs.WhatAChangeLeaves.{LeavesAt, AddsTo, IfTold};
 ghost use Rattle.ix_dir.specs.declared.moves.Move.TheVariants.{Synced};
 ghost use Rattle.ix_dir.specs.Moves.{area_after};
-ghost use Rattle.ix_shelf.specs.Answers.{record_at, put_answer, Answers, put_failed, leaves_file, load_failed, StandsWhole, IsRecordOf};
+ghost use Rattle.ix_shelf.specs.Answers.{record_at, put_answer, Answers, put_failed, load_failed, StandsWhole, IsRecordOf};
 ghost use Rattle.ix_shelf.specs.Shelf.{Knows};
 
 use crate::fault::{LoadError, PutError};
@@ -28,7 +29,7 @@ pub enum Put {
 }
 
 /// The record files of a directory. A shelf knows whether a change of them may wait for a sync.
-#[derive(Drop)]
+#[derive(Debug, Drop)]
 pub struct Shelf {
     unsynced: bool,
 }
@@ -61,47 +62,41 @@ impl Shelf {
         body: &Body,
         protected: bool,
     ) -> Result<Put, PutError>
-        requires { 0 < D.spare dir.old }
-        ensures answer { IfSome (D.moves dir.old) (λ m. Answers result (put_answer protected body.now (record_at m body.now.name))) }
+        requires { 0 < (D.state dir.old).spare }
+        ensures answer { IfSome (D.state dir.old).moves (λ m. Answers result (put_answer protected body.now (record_at m body.now.name))) }
         ensures clash { (name : List ℕ) → result ≡ Err (PutError.Clash name) → (name ≡ body.now.name) × (protected ≡ true) }
-        ensures stands { OnOk result (IfSome (D.moves dir.new) (λ m. record_at m body.now.name ≡ Some body.now.bytes)) }
-        // A file that stays there was read.
-        ensures read { IsTrue (leaves_file result) → Rose (D.finds dir.old) (D.finds dir.new) }
-        ensures cause { CountsWhere (put_failed result) (D.faults dir.old) (D.faults dir.new) }
-        // One rename where it is written, and else no move.
-        ensures renamed { result ≡ Ok Put.Written → Renames (D.moves dir.old) (D.moves dir.new) Records body.now.name body.now.bytes }
-        ensures kept { result ≢ Ok Put.Written → D.moves dir.new ≡ D.moves dir.old }
-        ensures added { AddsTo (D.moves dir.old) (D.moves dir.new) }
-        ensures left { result ≡ Ok Put.Written → IfTold (D.moves dir.old) (D.moves dir.new) (LeavesAt Records body.now.name (Some body.now.bytes)) }
+        ensures stands { OnOk result (IfSome (D.state dir.new).moves (λ m. record_at m body.now.name ≡ Some body.now.bytes)) }
+
+        // The directory after it, by what was answered: one rename where the file was written, and no move else. A file that stays was read.
+        ensures written { result ≡ Ok Put.Written → D.state dir.new ≡ after_rename slot (D.state dir.new).moves (record (D.state dir.old) { finds = (D.state dir.new).finds }) }
+        ensures renamed { result ≡ Ok Put.Written → Renames (D.state dir.old).moves (D.state dir.new).moves Records body.now.name body.now.bytes }
+        ensures shared { result ≡ Ok Put.Shared → D.state dir.new ≡ record (D.state dir.old) { finds = counted (D.state dir.old).finds } }
+        ensures stayed { (name : List ℕ) → result ≡ Err (PutError.Clash name) → D.state dir.new ≡ record (D.state dir.old) { finds = counted (D.state dir.old).finds } }
+        ensures failed { result ≡ Err PutError.Fault → D.state dir.new ≡ record (failed (D.state dir.old)) { slots = with_slot (D.state dir.old).slots slot ((D.state dir.new).slots slot); spare = (D.state dir.new).spare; finds = (D.state dir.new).finds } }
+        ensures wanting { result ≡ Err PutError.Memory → D.state dir.new ≡ record (D.state dir.old) { slots = with_slot (D.state dir.old).slots slot ((D.state dir.new).slots slot); finds = (D.state dir.new).finds } }
+        ensures tried { result ≡ Err PutError.Fault → ((D.state dir.new).spare ≡ (D.state dir.old).spare) ⊎ ((D.state dir.new).spare + 1 ≡ (D.state dir.old).spare) }
+        ensures unstaged { result ≡ Err PutError.Memory → ((D.state dir.new).slots slot ≡ None) ⊎ ((D.state dir.new).slots slot ≡ (D.state dir.old).slots slot) }
+        ensures found { ((D.state dir.new).finds ≡ (D.state dir.old).finds) ⊎ ((D.state dir.new).finds ≡ counted (D.state dir.old).finds) }
+        ensures cause { (D.state dir.new).faults ≡ counted_where (put_failed result) (D.state dir.old).faults }
+
+        // What follows for the moves, and what the shelf knows of them.
+        ensures kept { result ≢ Ok Put.Written → (D.state dir.new).moves ≡ (D.state dir.old).moves }
+        ensures added { AddsTo (D.state dir.old).moves (D.state dir.new).moves }
+        ensures left { result ≡ Ok Put.Written → IfTold (D.state dir.old).moves (D.state dir.new).moves (LeavesAt Records body.now.name (Some body.now.bytes)) }
         ensures unsynced { result ≡ Ok Put.Written → self.new.unsynced ≡ true }
         ensures same { result ≢ Ok Put.Written → self.new ≡ self.old }
-        ensures known { Knows self.old (D.moves dir.old) → Knows self.new (D.moves dir.new) }
-        ensures emptied { result ≡ Ok Put.Written → D.staged dir.new slot ≡ false }
-        ensures slots { IsTrue (leaves_file result) → SameSlots (D.staged dir.old) (D.slot_bytes dir.old) (D.staged dir.new) (D.slot_bytes dir.new) }
-        ensures others { OtherSlotsStay slot (D.staged dir.old) (D.slot_bytes dir.old) (D.staged dir.new) (D.slot_bytes dir.new) }
-        ensures unstaged { result ≡ Err PutError.Memory → (D.staged dir.new slot ≡ false) ⊎ SameSlots (D.staged dir.old) (D.slot_bytes dir.old) (D.staged dir.new) (D.slot_bytes dir.new) }
-        // Of the room, a rename alone takes one.
-        ensures spent { result ≡ Ok Put.Written → D.spare dir.new + 1 ≡ D.spare dir.old }
-        ensures spared { IsTrue (leaves_file result) → D.spare dir.new ≡ D.spare dir.old }
-        ensures wanting { result ≡ Err PutError.Memory → D.spare dir.new ≡ D.spare dir.old }
-        ensures failed { result ≡ Err PutError.Fault → (D.spare dir.new ≡ D.spare dir.old) ⊎ (D.spare dir.new + 1 ≡ D.spare dir.old) }
-        ensures listings { D.listings dir.new ≡ D.listings dir.old }
-        ensures finds { D.finds dir.old ≤ D.finds dir.new }
+        ensures known { Knows self.old (D.state dir.old).moves → Knows self.new (D.state dir.new).moves }
     {
         laws::rename_leaves();
         laws::calls_add_moves();
-        if let Some(found) = dir.read(alloc, Area::Records, body.name)? {
-            if found == body.bytes {
-                return Ok(Put::Shared);
-            }
-            if protected {
-                return Err(PutError::Clash { name: body.name });
+        match look(alloc, dir, body, protected)? {
+            Put::Shared => Ok(Put::Shared),
+            Put::Written => {
+                write(alloc, dir, slot, body)?;
+                self.unsynced = true;
+                Ok(Put::Written)
             }
         }
-        dir.stage(alloc, slot, body.bytes.as_slice())?;
-        dir.rename(slot, Area::Records, body.name)?;
-        self.unsynced = true;
-        Ok(Put::Written)
     }
 
     /// The record of a name, whose file is read anew. Over a directory that tells its moves, the record stands there whole.
@@ -112,20 +107,17 @@ impl Shelf {
         naming: &N,
         name: FileName,
     ) -> Result<Arc<RecordValue>, LoadError>
-        requires { IfSome (D.moves dir.old) (StandsWhole N.name_of name) }
-        ensures value { IfOk result (λ value. IsRecordOf N.name_of name (D.moves dir.old) value.value) }
+        requires { IfSome (D.state dir.old).moves (StandsWhole N.name_of name) }
+        ensures value { IfOk result (λ value. IsRecordOf N.name_of name (D.state dir.old).moves value.value) }
         // An answer comes from a file that was read.
-        ensures read { OnOk result (Rose (D.finds dir.old) (D.finds dir.new)) }
-        ensures cause { CountsWhere (load_failed result) (D.faults dir.old) (D.faults dir.new) }
+        ensures read { OnOk result ((D.state dir.new).finds ≡ counted (D.state dir.old).finds) }
         // Nothing was found under the name.
-        ensures lost { (n : List ℕ) → result ≡ Err (LoadError.Lost n) → (n ≡ name) × (D.moves dir.old ≡ None) × (D.finds dir.new ≡ D.finds dir.old) }
+        ensures lost { (n : List ℕ) → result ≡ Err (LoadError.Lost n) → (n ≡ name) × ((D.state dir.old).moves ≡ None) × ((D.state dir.new).finds ≡ (D.state dir.old).finds) }
         // What was found there isn't whole.
-        ensures damaged { (n : List ℕ) → result ≡ Err (LoadError.Damaged n) → (n ≡ name) × (D.moves dir.old ≡ None) × Rose (D.finds dir.old) (D.finds dir.new) }
-        ensures moves { D.moves dir.new ≡ D.moves dir.old }
-        ensures slots { SameSlots (D.staged dir.old) (D.slot_bytes dir.old) (D.staged dir.new) (D.slot_bytes dir.new) }
-        ensures spare { D.spare dir.new ≡ D.spare dir.old }
-        ensures listings { D.listings dir.new ≡ D.listings dir.old }
-        ensures finds { D.finds dir.old ≤ D.finds dir.new }
+        ensures damaged { (n : List ℕ) → result ≡ Err (LoadError.Damaged n) → (n ≡ name) × ((D.state dir.old).moves ≡ None) × ((D.state dir.new).finds ≡ counted (D.state dir.old).finds) }
+        // Of the directory two counts alone change.
+        ensures state { D.state dir.new ≡ record (D.state dir.old) { faults = counted_where (load_failed result) (D.state dir.old).faults; finds = (D.state dir.new).finds } }
+        ensures found { ((D.state dir.new).finds ≡ (D.state dir.old).finds) ⊎ ((D.state dir.new).finds ≡ counted (D.state dir.old).finds) }
     {
         let Some(bytes) = dir.read(alloc, Area::Records, name)? else {
             return Err(LoadError::Lost { name });
@@ -142,21 +134,18 @@ impl Shelf {
 
     /// Makes all changes of the records area stay after a crash, by a sync where one waits for it. Takes no memory.
     pub fn settle<D: Dir>(&mut self, dir: &mut D) -> Result<(), Failed>
-        requires { 0 < D.spare dir.old }
-        ensures synced { OnOk result (D.moves dir.new ≡ (if self.old.unsynced then with_move (D.moves dir.old) (Synced Records) else D.moves dir.old)) }
-        ensures failed { OnErr result (D.moves dir.new ≡ D.moves dir.old) }
-        ensures added { AddsTo (D.moves dir.old) (D.moves dir.new) }
-        ensures areas { IfTold (D.moves dir.old) (D.moves dir.new) (λ before now. (area : Area) → area_after now area ≡ area_after before area) }
+        requires { 0 < (D.state dir.old).spare }
+        // One sync where a change waits, and else no call.
+        ensures synced { OnOk result (D.state dir.new ≡ (if self.old.unsynced then record (spent (D.state dir.old)) { moves = with_move (D.state dir.old).moves (Synced Records) } else D.state dir.old)) }
+        ensures failed { OnErr result (D.state dir.new ≡ failed (spent (D.state dir.old))) }
         ensures waits { OnErr result (self.old.unsynced ≡ true) }
         ensures done { OnOk result (self.new.unsynced ≡ false) }
         ensures same { OnErr result (self.new ≡ self.old) }
-        ensures known { Knows self.old (D.moves dir.old) → Knows self.new (D.moves dir.new) }
-        ensures slots { SameSlots (D.staged dir.old) (D.slot_bytes dir.old) (D.staged dir.new) (D.slot_bytes dir.new) }
-        ensures cause { CountsWhere (is_err result) (D.faults dir.old) (D.faults dir.new) }
-        // One call where a change waits, and else none.
-        ensures spare { D.spare dir.new + (if self.old.unsynced then 1 else 0) ≡ D.spare dir.old }
-        ensures listings { D.listings dir.new ≡ D.listings dir.old }
-        ensures finds { D.finds dir.new ≡ D.finds dir.old }
+
+        // What follows for the moves.
+        ensures added { AddsTo (D.state dir.old).moves (D.state dir.new).moves }
+        ensures areas { IfTold (D.state dir.old).moves (D.state dir.new).moves (λ before now. (area : Area) → area_after now area ≡ area_after before area) }
+        ensures known { Knows self.old (D.state dir.old).moves → Knows self.new (D.state dir.new).moves }
     {
         laws::sync_leaves();
         laws::calls_add_moves();
@@ -170,19 +159,16 @@ impl Shelf {
 
     /// Takes a record file away; where it isn't there, nothing changes. Takes no memory.
     pub fn remove<D: Dir>(&mut self, dir: &mut D, name: FileName) -> Result<(), Failed>
-        requires { 0 < D.spare dir.old }
-        ensures removed { OnOk result (D.moves dir.new ≡ removed (D.moves dir.old) Records name) }
-        ensures failed { OnErr result (D.moves dir.new ≡ D.moves dir.old) }
-        ensures added { AddsTo (D.moves dir.old) (D.moves dir.new) }
-        ensures left { OnOk result (IfTold (D.moves dir.old) (D.moves dir.new) (LeavesAt Records name None)) }
+        requires { 0 < (D.state dir.old).spare }
+        ensures removed { OnOk result (D.state dir.new ≡ record (spent (D.state dir.old)) { moves = removed (D.state dir.old).moves Records name }) }
+        ensures failed { OnErr result (D.state dir.new ≡ failed (spent (D.state dir.old))) }
         ensures unsynced { OnOk result (self.new.unsynced ≡ true) }
         ensures same { OnErr result (self.new ≡ self.old) }
-        ensures known { Knows self.old (D.moves dir.old) → Knows self.new (D.moves dir.new) }
-        ensures slots { SameSlots (D.staged dir.old) (D.slot_bytes dir.old) (D.staged dir.new) (D.slot_bytes dir.new) }
-        ensures cause { CountsWhere (is_err result) (D.faults dir.old) (D.faults dir.new) }
-        ensures spare { D.spare dir.new + 1 ≡ D.spare dir.old }
-        ensures listings { D.listings dir.new ≡ D.listings dir.old }
-        ensures finds { D.finds dir.new ≡ D.finds dir.old }
+
+        // What follows for the moves.
+        ensures added { AddsTo (D.state dir.old).moves (D.state dir.new).moves }
+        ensures left { OnOk result (IfTold (D.state dir.old).moves (D.state dir.new).moves (LeavesAt Records name None)) }
+        ensures known { Knows self.old (D.state dir.old).moves → Knows self.new (D.state dir.new).moves }
     {
         laws::removal_leaves();
         laws::calls_add_moves();
@@ -190,4 +176,41 @@ impl Shelf {
         self.unsynced = true;
         Ok(())
     }
+}
+
+/// What a put answers where nothing fails, by what stands under the name.
+fn look<D: Dir>(alloc: Global, dir: &mut D, body: &Body, protected: bool) -> Result<Put, PutError>
+    ensures answer { IfSome (D.state dir.old).moves (λ m. Answers result (put_answer protected body.now (record_at m body.now.name))) }
+    ensures clash { (name : List ℕ) → result ≡ Err (PutError.Clash name) → (name ≡ body.now.name) × (protected ≡ true) }
+    ensures state { D.state dir.new ≡ record (D.state dir.old) { faults = counted_where (put_failed result) (D.state dir.old).faults; finds = (D.state dir.new).finds } }
+    ensures shared { result ≡ Ok Put.Shared → (D.state dir.new).finds ≡ counted (D.state dir.old).finds }
+    ensures stayed { (name : List ℕ) → result ≡ Err (PutError.Clash name) → (D.state dir.new).finds ≡ counted (D.state dir.old).finds }
+    ensures found { ((D.state dir.new).finds ≡ (D.state dir.old).finds) ⊎ ((D.state dir.new).finds ≡ counted (D.state dir.old).finds) }
+{
+    let Some(found) = dir.read(alloc, Area::Records, body.name)? else {
+        return Ok(Put::Written);
+    };
+    if found == body.bytes {
+        return Ok(Put::Shared);
+    }
+    if protected {
+        return Err(PutError::Clash { name: body.name });
+    }
+    Ok(Put::Written)
+}
+
+/// Makes the file ready in the slot, and renames it to its name.
+fn write<D: Dir>(alloc: Global, dir: &mut D, slot: u32, body: &Body) -> Result<(), PutError>
+    requires { 0 < (D.state dir.old).spare }
+    ensures written { OnOk result (D.state dir.new ≡ after_rename slot (D.state dir.new).moves (D.state dir.old)) }
+    ensures renamed { OnOk result (Renames (D.state dir.old).moves (D.state dir.new).moves Records body.now.name body.now.bytes) }
+    ensures clash { (name : List ℕ) → result ≢ Err (PutError.Clash name) }
+    ensures failed { result ≡ Err PutError.Fault → D.state dir.new ≡ record (failed (D.state dir.old)) { slots = with_slot (D.state dir.old).slots slot ((D.state dir.new).slots slot); spare = (D.state dir.new).spare } }
+    ensures tried { result ≡ Err PutError.Fault → ((D.state dir.new).spare ≡ (D.state dir.old).spare) ⊎ ((D.state dir.new).spare + 1 ≡ (D.state dir.old).spare) }
+    ensures wanting { result ≡ Err PutError.Memory → D.state dir.new ≡ record (D.state dir.old) { slots = with_slot (D.state dir.old).slots slot ((D.state dir.new).slots slot) } }
+    ensures unstaged { result ≡ Err PutError.Memory → (D.state dir.new).slots slot ≡ None }
+{
+    dir.stage(alloc, slot, body.bytes.as_slice())?;
+    dir.rename(slot, Area::Records, body.name)?;
+    Ok(())
 }

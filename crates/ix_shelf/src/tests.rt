@@ -1,19 +1,16 @@
 //! What puts and loads answer, and how many calls of the directory each takes.
-ghost use Rattle.std.specs.Prelude.{IfOk};
 ghost use Rattle.ix_types.specs.Name.{sha_name};
-ghost use Rattle.ix_record.specs.Value.{IsValidRecord};
 ghost use Rattle.ix_record.specs.Whole.{IsWhole};
 
 use super::*;
-use ix_dir::{Area, Dir, DirError, Listed, MemoryDir, Pick, Reads, SteadyDir, UntoldDir};
-use ix_record::{Body, RecordValue, decode, encode};
-use ix_types::{FileName, Naming, Seq, Sha};
+use ix_dir::{Area, Dir, MemoryDir, Pick, Reads, SteadyDir, UntoldDir};
+use ix_record::{Body, decode, encode};
+use ix_types::{Failed, FileName, Naming, Seq, Sha};
 use std::alloc::Global;
 use std::process::Abort;
-use std::sync::Arc;
 use std::test::Fail;
 
-/// A record of one symbol with one occurrence.
+/// A record of one symbol with one occurrence, in line 1.
 const RECORD: [u8; 58] = [
     73, 88, 82, 49, 0, 0, 0, 1, 0, 0, 0, 6, 0, 0, 0, 100, 0, 0, 0, 0, 0, 0, 0, 5, 115, 58, 49, 77,
     65, 0, 0, 0, 1, 65, 0, 0, 0, 1, 0, 0, 0, 1, 0, 0, 0, 8, 0, 0, 0, 0, 0, 0, 0, 2, 0, 0, 0, 0,
@@ -22,420 +19,381 @@ const RECORD: [u8; 58] = [
 /// The name of that record.
 const NAME: &[u8] = b"9c498cadf2014879ffd80ce7f89feab86a2032e0b6b10d67628e078624a563f5";
 
+fn name(rt: &impl Abort) -> FileName {
+    FileName::read(NAME).expect(rt, "a name")
+}
+
 /// The record with its occurrence in this line.
-fn record_in(alloc: Global, line: u8) -> Result<Body, Fail>
-    ensures { IfOk result (IsWhole sha_name) }
-{
-    let mut bytes = Vec::from_slice(alloc, &RECORD)?;
-    if let Some(last) = bytes.get_mut(41) {
-        *last = line;
+fn record_in(alloc: Global, rt: &impl Abort, line: u8) -> Vec<u8> {
+    let mut bytes = Vec::from_slice(alloc, &RECORD).expect(rt, "memory");
+    if let Some(place) = bytes.get_mut(41) {
+        *place = line;
     }
-    let _value = decode(alloc, &bytes)?;
-    Ok(Body {
+    bytes
+}
+
+/// The record with its occurrence in line 1, and its name.
+fn body(alloc: Global, rt: &impl Abort) -> Body
+    ensures { IsWhole sha_name result }
+{
+    let bytes = record_in(alloc, rt, 1);
+    assert!(rt; decode(alloc, &bytes).is_ok());
+    Body {
         name: Sha.name(&bytes),
         bytes: Seq::of(bytes),
-    })
-}
-
-/// An empty directory whose call of this number fails.
-fn failing(alloc: Global, call: u64) -> Result<MemoryDir, Fail> {
-    Ok(MemoryDir::failing(alloc, Seq::of(vec![in alloc; call]?)))
-}
-
-/// Whether the next call of the directory fails.
-fn next_fails<D: Dir>(alloc: Global, dir: &mut D) -> bool {
-    matches!(dir.list(alloc, Area::Units), Err(DirError::Failed))
-}
-
-/// An error in a word. A clash that doesn't carry this name is another error.
-fn error_word(error: PutError, name: FileName) -> &'static str {
-    if error == PutError::Fault {
-        "fault"
-    } else if error == (PutError::Clash { name }) {
-        "clash"
-    } else if error == PutError::Memory {
-        "memory"
-    } else {
-        "another error"
     }
 }
 
-/// What a put of the record answers, in a word.
+/// What a put of the record answers.
 fn put<D: Dir>(
     alloc: Global,
+    rt: &impl Abort,
     shelf: &mut Shelf,
     dir: &mut D,
-    body: &Body,
     protected: bool,
-) -> Result<&'static str, Fail> {
-    dir.reserve(alloc, 1)?;
-    Ok(match shelf.put(alloc, dir, 0, body, protected) {
+) -> &'static str {
+    dir.reserve(alloc, 1).expect(rt, "room");
+    let body = body(alloc, rt);
+    match shelf.put(alloc, dir, 0, &body, protected) {
         Ok(Put::Written) => "written",
         Ok(Put::Shared) => "shared",
-        Err(error) => error_word(error, body.name),
-    })
-}
-
-fn settle<D: Dir>(alloc: Global, shelf: &mut Shelf, dir: &mut D) -> Result<(), Fail> {
-    dir.reserve(alloc, 1)?;
-    shelf.settle(dir)?;
-    Ok(())
-}
-
-fn remove<D: Dir>(
-    alloc: Global,
-    shelf: &mut Shelf,
-    dir: &mut D,
-    name: FileName,
-) -> Result<(), Fail> {
-    dir.reserve(alloc, 1)?;
-    shelf.remove(dir, name)?;
-    Ok(())
-}
-
-/// Checks that these bytes stand under the name of a record, or that nothing does.
-fn check_bytes<D: Dir>(
-    alloc: Global,
-    rt: &impl Abort,
-    dir: &mut D,
-    name: FileName,
-    want: &[u8],
-) -> Result<(), Fail> {
-    match dir.read(alloc, Area::Records, name)? {
-        Some(bytes) => assert_eq!(rt; bytes.as_slice(), want),
-        None => assert!(rt; want.is_empty()),
+        Err(error) => put_error(error, name(rt)),
     }
-    Ok(())
 }
 
-fn check_list<D: Dir>(
-    alloc: Global,
-    rt: &impl Abort,
-    dir: &mut D,
-    area: Area,
-    want: &[Listed],
-) -> Result<(), Fail> {
-    let listed = dir.list(alloc, area)?;
-    assert!(rt; listed.as_slice() == want);
-    Ok(())
+/// A clash that doesn't carry this name is another error.
+fn put_error(error: PutError, name: FileName) -> &'static str {
+    if error == PutError::Fault {
+        return "fault";
+    }
+    if error == (PutError::Clash { name }) {
+        return "clash";
+    }
+    "another error"
 }
 
-/// Of the calls 1 to 8 the third fails, the rename of the first put. The fourth is the list.
-fn put_until_written(
+/// What a load answers behind a put of the record.
+fn load<D: Dir>(alloc: Global, rt: &impl Abort, shelf: &mut Shelf, dir: &mut D) -> &'static str {
+    laws::put_record_stands_whole();
+    dir.reserve(alloc, 1).expect(rt, "room");
+    let body = body(alloc, rt);
+    assert!(rt; shelf.put(alloc, dir, 0, &body, true) == Ok(Put::Written));
+    let value = shelf
+        .load(alloc, dir, &Sha, body.name)
+        .expect(rt, "a record");
+    let bytes = encode(alloc, &value).expect(rt, "bytes");
+    assert_eq!(rt; bytes.as_slice(), RECORD.as_slice());
+    "loaded"
+}
+
+fn settle<D: Dir>(alloc: Global, rt: &impl Abort, shelf: &mut Shelf, dir: &mut D) -> &'static str {
+    dir.reserve(alloc, 1).expect(rt, "room");
+    done(shelf.settle(dir))
+}
+
+fn remove<D: Dir>(alloc: Global, rt: &impl Abort, shelf: &mut Shelf, dir: &mut D) -> &'static str {
+    dir.reserve(alloc, 1).expect(rt, "room");
+    done(shelf.remove(dir, name(rt)))
+}
+
+fn done(answer: Result<(), Failed>) -> &'static str {
+    match answer {
+        Ok(()) => "done",
+        Err(Failed) => "fault",
+    }
+}
+
+/// How many files an area has.
+fn list<D: Dir>(alloc: Global, dir: &mut D, area: Area) -> &'static str {
+    match dir.list(alloc, area) {
+        Ok(listed) => {
+            if listed.as_slice().is_empty() {
+                "none"
+            } else {
+                "some"
+            }
+        }
+        Err(_) => "fault",
+    }
+}
+
+/// The line of the record that stands under the name.
+fn line<D: Dir>(alloc: Global, rt: &impl Abort, dir: &mut D) -> &'static str {
+    let found = dir
+        .read(alloc, Area::Records, name(rt))
+        .expect(rt, "a read");
+    let Some(bytes) = found else {
+        return "none";
+    };
+    if bytes.as_slice() == record_in(alloc, rt, 1).as_slice() {
+        return "1";
+    }
+    if bytes.as_slice() == record_in(alloc, rt, 2).as_slice() {
+        return "2";
+    }
+    "other bytes"
+}
+
+/// What a call answers. A `keep` is a put of a protected name, and a `next` a call of which it is asked alone whether it fails.
+fn answer<D: Dir>(
     alloc: Global,
     rt: &impl Abort,
     shelf: &mut Shelf,
-    dir: &mut MemoryDir,
-    body: &Body,
-) -> Result<(), Fail> {
-    assert_eq!(rt; put(alloc, shelf, dir, body, true)?, "fault");
-    check_list(alloc, rt, dir, Area::Records, &[])?;
-    assert_eq!(rt; put(alloc, shelf, dir, body, true)?, "written");
-    assert_eq!(rt; put(alloc, shelf, dir, body, true)?, "shared");
-    Ok(())
+    dir: &mut D,
+    call: &str,
+) -> &'static str {
+    match call {
+        "put" => put(alloc, rt, shelf, dir, false),
+        "keep" => put(alloc, rt, shelf, dir, true),
+        "load" => load(alloc, rt, shelf, dir),
+        "settle" => settle(alloc, rt, shelf, dir),
+        "remove" => remove(alloc, rt, shelf, dir),
+        "line" => line(alloc, rt, dir),
+        "records" => list(alloc, dir, Area::Records),
+        _ => list(alloc, dir, Area::Units),
+    }
 }
 
-#[test]
-fn a_put_that_failed_is_put_again(rt: HostRuntime) -> Result<(), Fail> {
-    let alloc = rt.alloc();
-    let body = record_in(alloc, 1)?;
-    assert_eq!(rt; body.name.bytes(), NAME);
-    // The ninth call is the one sync.
-    let mut dir = MemoryDir::failing(alloc, Seq::of(vec![in alloc; 3, 10]?));
-    let mut shelf = Shelf::new();
-    put_until_written(alloc, &rt, &mut shelf, &mut dir, &body)?;
-    settle(alloc, &mut shelf, &mut dir)?;
-    settle(alloc, &mut shelf, &mut dir)?;
-    assert!(rt; next_fails(alloc, &mut dir));
-    Ok(())
+/// Makes the calls, each of which has what it is to answer behind it.
+fn check_calls<D: Dir>(
+    alloc: Global,
+    rt: &impl Abort,
+    shelf: &mut Shelf,
+    dir: &mut D,
+    calls: &str,
+) {
+    for call in calls.split(' ') {
+        let (name, want) = call.split_once('=').expect(rt, "an answer");
+        assert_eq!(rt;
+            answer(alloc, rt, shelf, dir, name),
+            want,
+            "{call} in {calls}"
+        );
+    }
 }
 
-/// What stands under the name of the record in line 1, and what a put of that record does.
-struct Case {
-    /// The line of the record that stands there, 0 for none.
+/// Calls over a directory in memory.
+#[derive(Clone, Copy)]
+struct Run {
+    /// The line of the record that stands under the name at first, 0 for none.
     there: u8,
-    protected: bool,
-    answer: &'static str,
-    /// The number of the call behind the last one of the put.
-    next: u64,
+    /// The numbers of the calls of the directory that fail, 0 for none.
+    fails: [u64; 2],
+    calls: &'static str,
 }
 
-const CASES: [Case; 6] = [
-    Case {
+const RUNS: [Run; 14] = [
+    // A put that failed is put again; the ninth call is the one sync.
+    Run {
         there: 0,
-        protected: false,
-        answer: "written",
-        next: 4,
+        fails: [3, 10],
+        calls: "keep=fault records=none keep=written keep=shared settle=done settle=done units=fault",
     },
-    Case {
+    // How many calls a put makes, by what stands there.
+    Run {
         there: 0,
-        protected: true,
-        answer: "written",
-        next: 4,
+        fails: [4, 0],
+        calls: "put=written units=fault line=1",
     },
-    Case {
+    Run {
+        there: 0,
+        fails: [4, 0],
+        calls: "keep=written units=fault line=1",
+    },
+    Run {
         there: 1,
-        protected: false,
-        answer: "shared",
-        next: 2,
+        fails: [2, 0],
+        calls: "put=shared units=fault line=1",
     },
-    Case {
+    Run {
         there: 1,
-        protected: true,
-        answer: "shared",
-        next: 2,
+        fails: [2, 0],
+        calls: "keep=shared units=fault line=1",
     },
-    Case {
+    Run {
         there: 2,
-        protected: false,
-        answer: "written",
-        next: 4,
+        fails: [4, 0],
+        calls: "put=written units=fault line=1",
     },
-    Case {
+    Run {
         there: 2,
-        protected: true,
-        answer: "clash",
-        next: 2,
+        fails: [2, 0],
+        calls: "keep=clash units=fault line=2",
+    },
+    // A fault of a put leaves the areas.
+    Run {
+        there: 2,
+        fails: [1, 0],
+        calls: "put=fault line=2 records=some units=none",
+    },
+    Run {
+        there: 2,
+        fails: [2, 0],
+        calls: "put=fault line=2 records=some units=none",
+    },
+    Run {
+        there: 2,
+        fails: [3, 0],
+        calls: "put=fault line=2 records=some units=none",
+    },
+    // A load, a settle and a removal are one call, and a settle of a new shelf is none.
+    Run {
+        there: 0,
+        fails: [5, 0],
+        calls: "load=loaded units=fault",
+    },
+    Run {
+        there: 0,
+        fails: [5, 0],
+        calls: "put=written settle=done units=fault",
+    },
+    Run {
+        there: 0,
+        fails: [5, 0],
+        calls: "put=written remove=done units=fault line=none",
+    },
+    Run {
+        there: 0,
+        fails: [1, 0],
+        calls: "settle=done units=fault",
     },
 ];
 
-/// Places the record in this line under the name, or nothing in line 0.
-fn place(alloc: Global, dir: &mut MemoryDir, name: FileName, line: u8) -> Result<(), Fail> {
-    if line > 0 {
-        let there = record_in(alloc, line)?;
-        dir.place(alloc, Area::Records, name, there.bytes.as_slice())?;
+fn check_run(alloc: Global, rt: &impl Abort, run: &Run) {
+    let fails = Vec::from_slice(alloc, &run.fails).expect(rt, "memory");
+    let mut dir = MemoryDir::failing(alloc, Seq::of(fails));
+    if run.there > 0 {
+        let bytes = record_in(alloc, rt, run.there);
+        dir.place(alloc, Area::Records, name(rt), &bytes)
+            .expect(rt, "memory");
     }
-    Ok(())
+    check_calls(alloc, rt, &mut Shelf::new(), &mut dir, run.calls);
 }
 
-/// The call behind the last one of the put fails.
-fn check_case(alloc: Global, rt: &impl Abort, body: &Body, case: &Case) -> Result<(), Fail> {
-    let mut dir = failing(alloc, case.next)?;
-    place(alloc, &mut dir, body.name, case.there)?;
-    let mut shelf = Shelf::new();
-    assert_eq!(rt;
-        put(alloc, &mut shelf, &mut dir, body, case.protected)?,
-        case.answer
-    );
-    assert!(rt; next_fails(alloc, &mut dir));
-    let left = record_in(
+#[test]
+fn calls_answer_by_what_stands(rt: HostRuntime) {
+    for run in &RUNS {
+        check_run(rt.alloc(), &rt, run);
+    }
+}
+
+/// Each call once.
+const EACH: &str = "load=loaded settle=done put=shared remove=done line=none";
+
+#[test]
+fn each_directory_is_a_shelf(rt: HostRuntime) {
+    let alloc = rt.alloc();
+    let inner = MemoryDir::new(alloc);
+    check_calls(
         alloc,
-        if case.answer == "clash" {
-            case.there
-        } else {
-            1
-        },
-    )?;
-    check_bytes(alloc, rt, &mut dir, body.name, left.bytes.as_slice())
+        &rt,
+        &mut Shelf::new(),
+        &mut UntoldDir::new(inner, Reads::Whole),
+        EACH,
+    );
+    check_calls(
+        alloc,
+        &rt,
+        &mut Shelf::new(),
+        &mut SteadyDir::new(alloc),
+        EACH,
+    );
+}
+
+/// Checks which record a crash leaves under the name, where it takes the oldest values.
+fn check_left(alloc: Global, rt: &impl Abort, dir: &MemoryDir, want: &str) {
+    let mut left = dir.stopped(alloc, Pick::Oldest).expect(rt, "memory");
+    assert_eq!(rt; line(alloc, rt, &mut left), want);
 }
 
 #[test]
-fn a_put_answers_by_what_stands(rt: HostRuntime) -> Result<(), Fail> {
-    let body = record_in(rt.alloc(), 1)?;
-    for case in &CASES {
-        check_case(rt.alloc(), &rt, &body, case)?;
-    }
-    Ok(())
-}
-
-/// A put of the record in line 1 over that in line 2, of which this call fails.
-fn check_fault(alloc: Global, rt: &impl Abort, body: &Body, call: u64) -> Result<(), Fail> {
-    let mut dir = failing(alloc, call)?;
-    place(alloc, &mut dir, body.name, 2)?;
-    let mut shelf = Shelf::new();
-    assert_eq!(rt; put(alloc, &mut shelf, &mut dir, body, false)?, "fault");
-    let there = record_in(alloc, 2)?;
-    check_bytes(alloc, rt, &mut dir, body.name, there.bytes.as_slice())?;
-    let listed = [Listed {
-        name: body.name,
-        stamp: 0,
-    }];
-    check_list(alloc, rt, &mut dir, Area::Records, &listed)?;
-    check_list(alloc, rt, &mut dir, Area::Units, &[])
-}
-
-#[test]
-fn a_fault_of_a_put_leaves_the_areas(rt: HostRuntime) -> Result<(), Fail> {
-    let body = record_in(rt.alloc(), 1)?;
-    for call in 1..=3 {
-        check_fault(rt.alloc(), &rt, &body, call)?;
-    }
-    Ok(())
-}
-
-/// A call behind a put.
-#[derive(Clone, Copy)]
-enum Step {
-    Load,
-    Settle,
-    Remove,
-}
-
-/// Puts the record, and loads it.
-fn put_and_load<D: Dir>(
-    alloc: Global,
-    rt: &impl Abort,
-    shelf: &mut Shelf,
-    dir: &mut D,
-    body: &Body,
-) -> Result<Arc<RecordValue>, Fail>
-    requires { IsWhole sha_name body.now }
-    ensures { IfOk result (λ value. IsValidRecord value.value) }
-{
-    laws::put_record_stands_whole();
-    dir.reserve(alloc, 1)?;
-    let put = shelf.put(alloc, dir, 0, body, true);
-    assert!(rt; put == Ok(Put::Written));
-    match shelf.load(alloc, dir, &Sha, body.name) {
-        Ok(value) => Ok(value),
-        Err(_) => Err(Fail::new("not loaded")),
-    }
-}
-
-/// The one spelling of what is loaded is what was put.
-fn check_load<D: Dir>(
-    alloc: Global,
-    rt: &impl Abort,
-    shelf: &mut Shelf,
-    dir: &mut D,
-) -> Result<(), Fail> {
-    let body = record_in(alloc, 1)?;
-    let value = put_and_load(alloc, rt, shelf, dir, &body)?;
-    let bytes = encode(alloc, &value)?;
-    assert_eq!(rt; bytes.as_slice(), RECORD.as_slice());
-    Ok(())
-}
-
-/// Each call once, through the bound.
-fn each_call<D: Dir>(alloc: Global, rt: &impl Abort, dir: &mut D) -> Result<(), Fail> {
-    let mut shelf = Shelf::new();
-    check_load(alloc, rt, &mut shelf, dir)?;
-    settle(alloc, &mut shelf, dir)?;
-    let name = Sha.name(&RECORD);
-    remove(alloc, &mut shelf, dir, name)?;
-    check_bytes(alloc, rt, dir, name, &[])
-}
-
-#[test]
-fn each_directory_is_a_shelf(rt: HostRuntime) -> Result<(), Fail> {
+fn a_settled_record_stays_after_a_crash(rt: HostRuntime) {
     let alloc = rt.alloc();
-    each_call(alloc, &rt, &mut MemoryDir::new(alloc))?;
-    each_call(alloc, &rt, &mut SteadyDir::new(alloc))?;
-    let mut untold = UntoldDir::new(MemoryDir::new(alloc), Reads::Whole);
-    each_call(alloc, &rt, &mut untold)
-}
-
-/// The fifth call of the directory fails, and the one that follows the put is the fourth.
-fn check_step(alloc: Global, rt: &impl Abort, step: Step) -> Result<(), Fail> {
-    let mut dir = failing(alloc, 5)?;
-    let mut shelf = Shelf::new();
-    take_step(alloc, rt, &mut shelf, &mut dir, step)?;
-    assert!(rt; next_fails(alloc, &mut dir));
-    Ok(())
-}
-
-fn take_step(
-    alloc: Global,
-    rt: &impl Abort,
-    shelf: &mut Shelf,
-    dir: &mut MemoryDir,
-    step: Step,
-) -> Result<(), Fail> {
-    let body = record_in(alloc, 1)?;
-    match step {
-        Step::Load => {
-            let _value = put_and_load(alloc, rt, shelf, dir, &body)?;
-            Ok(())
-        }
-        Step::Settle => {
-            assert_eq!(rt; put(alloc, shelf, dir, &body, true)?, "written");
-            settle(alloc, shelf, dir)
-        }
-        Step::Remove => {
-            assert_eq!(rt; put(alloc, shelf, dir, &body, true)?, "written");
-            remove(alloc, shelf, dir, body.name)
-        }
-    }
-}
-
-#[test]
-fn a_load_a_settle_and_a_removal_are_one_call(rt: HostRuntime) -> Result<(), Fail> {
-    for step in [Step::Load, Step::Settle, Step::Remove] {
-        check_step(rt.alloc(), &rt, step)?;
-    }
-    Ok(())
-}
-
-#[test]
-fn a_settle_of_a_new_shelf_is_no_call(rt: HostRuntime) -> Result<(), Fail> {
-    let mut dir = failing(rt.alloc(), 1)?;
-    settle(rt.alloc(), &mut Shelf::new(), &mut dir)?;
-    assert!(rt; next_fails(rt.alloc(), &mut dir));
-    Ok(())
-}
-
-/// Checks what a crash leaves under the name, where it takes the oldest values.
-fn check_left(
-    alloc: Global,
-    rt: &impl Abort,
-    dir: &MemoryDir,
-    name: FileName,
-    want: &[u8],
-) -> Result<(), Fail> {
-    let mut left = dir.stopped(alloc, Pick::Oldest)?;
-    check_bytes(alloc, rt, &mut left, name, want)
-}
-
-#[test]
-fn a_settled_record_stays_after_a_crash(rt: HostRuntime) -> Result<(), Fail> {
-    let alloc = rt.alloc();
-    let body = record_in(alloc, 1)?;
     let mut dir = MemoryDir::new(alloc);
     let mut shelf = Shelf::new();
-    assert_eq!(rt; put(alloc, &mut shelf, &mut dir, &body, true)?, "written");
-    check_left(alloc, &rt, &dir, body.name, &[])?;
-    settle(alloc, &mut shelf, &mut dir)?;
-    check_left(alloc, &rt, &dir, body.name, &RECORD)
+    check_calls(alloc, &rt, &mut shelf, &mut dir, "keep=written");
+    check_left(alloc, &rt, &dir, "none");
+    check_calls(alloc, &rt, &mut shelf, &mut dir, "settle=done");
+    check_left(alloc, &rt, &dir, "1");
 }
 
-/// A directory that doesn't tell its moves, in which these bytes stand under the name of a record.
-fn untold(alloc: Global, name: FileName, bytes: &[u8], reads: Reads) -> Result<UntoldDir, Fail> {
-    let mut inner = MemoryDir::new(alloc);
-    inner.place(alloc, Area::Records, name, bytes)?;
-    Ok(UntoldDir::new(inner, reads))
-}
-
-/// Why the bytes under the name aren't read.
+/// Why these bytes under the name aren't read, over a directory that doesn't tell its moves.
 fn refusal(
     alloc: Global,
+    rt: &impl Abort,
     name: FileName,
     bytes: &[u8],
     reads: Reads,
-) -> Result<Option<LoadError>, Fail> {
-    let mut dir = untold(alloc, name, bytes, reads)?;
-    Ok(Shelf::new().load(alloc, &mut dir, &Sha, name).err())
+) -> &'static str {
+    let mut inner = MemoryDir::new(alloc);
+    inner
+        .place(alloc, Area::Records, name, bytes)
+        .expect(rt, "memory");
+    let mut dir = UntoldDir::new(inner, reads);
+    match Shelf::new().load(alloc, &mut dir, &Sha, name) {
+        Ok(_) => "a record",
+        Err(error) => load_error(error, name),
+    }
+}
+
+/// An error that doesn't carry this name is another one.
+fn load_error(error: LoadError, name: FileName) -> &'static str {
+    if error == (LoadError::Lost { name }) {
+        return "lost";
+    }
+    if error == (LoadError::Damaged { name }) {
+        return "damaged";
+    }
+    "another error"
 }
 
 #[test]
-fn a_record_is_lost_or_damaged(rt: HostRuntime) -> Result<(), Fail> {
+fn a_record_is_lost_or_damaged(rt: HostRuntime) {
     let alloc = rt.alloc();
-    let name = Sha.name(&RECORD);
-    let lost = refusal(alloc, name, &RECORD, Reads::Nothing)?;
-    assert!(rt; lost == Some(LoadError::Lost { name }));
-    let short = refusal(alloc, name, &RECORD, Reads::ByteLess)?;
-    assert!(rt; short == Some(LoadError::Damaged { name }));
-    Ok(())
+    let other = record_in(alloc, &rt, 2);
+    let record = name(&rt);
+    assert_eq!(rt;
+        refusal(alloc, &rt, record, &RECORD, Reads::Nothing),
+        "lost"
+    );
+    assert_eq!(rt;
+        refusal(alloc, &rt, record, &RECORD, Reads::ByteLess),
+        "damaged"
+    );
+    assert_eq!(rt;
+        refusal(alloc, &rt, record, &other, Reads::Whole),
+        "damaged"
+    );
+    let none = Sha.name(b"xyz");
+    assert_eq!(rt; refusal(alloc, &rt, none, b"xyz", Reads::Whole), "damaged");
 }
 
 #[test]
-fn other_bytes_are_damaged(rt: HostRuntime) -> Result<(), Fail> {
+fn errors_have_texts(rt: HostRuntime) -> Result<(), Fail> {
     let alloc = rt.alloc();
-    let name = Sha.name(&RECORD);
-    let other = record_in(alloc, 2)?;
-    let of_another = refusal(alloc, name, other.bytes.as_slice(), Reads::Whole)?;
-    assert!(rt; of_another == Some(LoadError::Damaged { name }));
-    let no_record = Sha.name(b"xyz");
-    let by_bytes = refusal(alloc, no_record, b"xyz", Reads::Whole)?;
-    assert!(rt; by_bytes == Some(LoadError::Damaged { name: no_record }));
+    let name = FileName::read(b"ab").expect(&rt, "a name");
+    let puts = [
+        (PutError::Fault, "the directory failed"),
+        (
+            PutError::Clash { name },
+            "other bytes stand under the protected name \"ab\"",
+        ),
+        (PutError::Memory, "memory"),
+    ];
+    for (error, want) in puts {
+        assert_eq!(rt; format!(in alloc; "{error}")?.as_str(), want);
+    }
+    let loads = [
+        (LoadError::Fault, "the directory failed"),
+        (LoadError::Lost { name }, "no record file \"ab\""),
+        (
+            LoadError::Damaged { name },
+            "the record file \"ab\" isn't what its name says",
+        ),
+        (LoadError::Memory, "memory"),
+    ];
+    for (error, want) in loads {
+        assert_eq!(rt; format!(in alloc; "{error}")?.as_str(), want);
+    }
     Ok(())
 }

@@ -1,4 +1,4 @@
-use Rattle.ix_cabinet.proofs.Units.{none_held}
+use Rattle.ix_cabinet.proofs.AreaHoldsUnits.{none_held}
 use Rattle.ix_cabinet.proofs.laws.an_empty_directory_holds_units.Goals as goal
 
 pub returns : goal.returns

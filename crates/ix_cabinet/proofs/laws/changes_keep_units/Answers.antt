@@ -1,5 +1,5 @@
 use Rattle.std.proofs.Common.{[]}
-use Rattle.ix_cabinet.proofs.Units.{held_with, held_without, held_beside, held_still}
+use Rattle.ix_cabinet.proofs.AreaHoldsUnits.{held_with, held_without, held_beside, held_still}
 use Rattle.ix_cabinet.proofs.laws.changes_keep_units.Goals as goal
 
 pub returns-clause-put : goal.returns-clause-put

@@ -1,4 +1,4 @@
-use Rattle.ix_cabinet.proofs.Members.{gone_is}
+use Rattle.ix_cabinet.proofs.WhichNamesChanged.{gone_is}
 use Rattle.ix_cabinet.proofs.laws.gone_names_are_those.Goals as goal
 
 pub returns : goal.returns

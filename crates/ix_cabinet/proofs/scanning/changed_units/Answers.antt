@@ -1,8 +1,8 @@
-use Rattle.std.proofs.Common.{rules, All, arith}
+use Rattle.std.proofs.Common.{ap, rules, All, arith}
 use Rattle.ix_dir.specs.declared.area.Area.TheVariants.{Units}
 use Rattle.ix_dir.specs.Moves.{area_after}
 use Rattle.ix_cabinet.specs.Scan.{IsUnitAt}
-use Rattle.ix_cabinet.proofs.Found.{names_more, applied}
+use Rattle.ix_cabinet.proofs.OneUnitMore.{names_more, applied}
 use Rattle.ix_cabinet.proofs.scanning.changed_units.Goals as goal
 
 pub loop-one-preserved : goal.loop-one-preserved
@@ -11,12 +11,7 @@ loop-one-preserved g c =
     let done = c.in_ok-note_changed.ensures in
     record {
       names = names_more c.args.known.now c.args.listed.now c.loop-one.one-index c.one-item.result _ _ (omega arith) c.one-item.is before.names done.names;
-      at = applied _ _ (λ m. All (IsUnitAt (area_after m Units)) c.loop-one.puts.items) (λ m. All (IsUnitAt (area_after m Units)) c.note_changed.new.puts.items) before.moves done.at before.at;
+      at = applied _ _ (λ m. All (IsUnitAt (area_after m Units)) c.loop-one.puts.items) (λ m. All (IsUnitAt (area_after m Units)) c.note_changed.new.puts.items) (ap (λ d. d.moves) before.state) done.at before.at;
       units = done.units before.units;
-      faults = search rules;
-      listings = search rules;
-      finds = search rules;
-      moves = search rules;
-      slots = search rules;
-      spare = search rules;
+      state = search rules;
     }

@@ -1,6 +1,6 @@
 use Rattle.std.proofs.Common.{inr, not, true≢false, refl, sym, ap, ◌∙◌, ◌≡◌}
 use Rattle.std.specs.Cmp.Lexicographic.{bytes_decides}
-use Rattle.ix_cabinet.proofs.Found.{the_value}
+use Rattle.ix_cabinet.proofs.OneUnitMore.{the_value}
 use Rattle.ix_cabinet.proofs.scanning.unit_in.Goals as goal
 
 pub returns-then-ne-clause-damaged : goal.returns-then-ne-clause-damaged

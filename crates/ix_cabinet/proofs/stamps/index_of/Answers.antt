@@ -1,7 +1,7 @@
 use Rattle.std.proofs.Common.{ap, ◌∙◌, arith}
 use Rattle.std.specs.Map.{lookup}
 use Rattle.ix_dir.specs.Moves.{same_name}
-use Rattle.ix_cabinet.proofs.Rising.{is_new}
+use Rattle.ix_cabinet.proofs.NamesRise.{is_new}
 use Rattle.ix_cabinet.proofs.stamps.index_of.Goals as goal
 
 pub add-requires : goal.add-requires

@@ -3,7 +3,7 @@ use Rattle.std.specs.Option.{IfSome}
 use Rattle.ix_dir.specs.declared.area.Area.{Area}
 use Rattle.ix_dir.specs.declared.area.Area.TheVariants.{Records}
 use Rattle.ix_dir.specs.Calls.{with_move}
-use Rattle.ix_dir.specs.Leaves.{LeavesAt}
+use Rattle.ix_dir.specs.WhatAChangeLeaves.{LeavesAt}
 use Rattle.ix_dir.specs.declared.moves.Move.{Move}
 use Rattle.ix_dir.specs.declared.moves.Move.TheVariants.{Renamed}
 use Rattle.ix_record.specs.declared.body.Body.{Body}

@@ -1,6 +1,6 @@
 use Rattle.std.proofs.Common.{ap, ◌∙◌}
 use Rattle.std.specs.FinMap.{get}
-use Rattle.ix_cabinet.proofs.Rows.{found}
+use Rattle.ix_cabinet.proofs.StampsByName.{found}
 use Rattle.ix_cabinet.proofs.stamps.Stamps.get.Goals as goal
 
 pub returns : goal.returns

@@ -1,9 +1,9 @@
 use Rattle.std.proofs.Common.{◌≡◌, subst, sym, ap, ◌∙◌, filter, not, IfOk}
 use Rattle.std.specs.FinMap.{contains_key, keys}
 use Rattle.std.specs.Map.{keys_of}
-use Rattle.ix_cabinet.proofs.Rising.{rising_keys, kept_rise}
-use Rattle.ix_cabinet.proofs.Rows.{keys_sorted}
-use Rattle.ix_dir.specs.Files.{name_cmp}
+use Rattle.ix_cabinet.proofs.NamesRise.{rising_keys, kept_rise}
+use Rattle.ix_cabinet.proofs.StampsByName.{keys_sorted}
+use Rattle.ix_types.specs.Row.{text_cmp}
 use Rattle.ix_cabinet.proofs.stamps.Stamps.lacking_in.Goals as goal
 
 pub returns-clause-names : goal.returns-clause-names
@@ -15,4 +15,4 @@ returns-clause-names c =
 pub returns-clause-rising : goal.returns-clause-rising
 returns-clause-rising c =
     let es = c.self.inside.stamps.entries in
-    kept_rise c.lacking.result (λ name. not (contains_key c.args.others.now name)) (keys_of es) (rising_keys name_cmp es c.self.invariant) c.lacking.ensures
+    kept_rise c.lacking.result (λ name. not (contains_key c.args.others.now name)) (keys_of es) (rising_keys text_cmp es c.self.invariant) c.lacking.ensures

@@ -13,10 +13,11 @@ use Rattle.std.specs.FinMap.Entries.{below_all}
 use Rattle.std.proofs.lemmas.Bool.{and_parts}
 use Rattle.std.proofs.lemmas.List.Kept.{IsStrictlySortedBy-filter}
 use Rattle.ix_dir.specs.declared.dir.Listed.{Listed}
-use Rattle.ix_dir.specs.Files.{name_cmp, IsRising}
+use Rattle.ix_dir.specs.Files.{IsRising}
+use Rattle.ix_types.specs.Row.{text_cmp}
 use Rattle.ix_dir.specs.Moves.{same_name}
 use Rattle.std.proofs.lemmas.Option.{slice_get-get_or, same_Some}
-use Rattle.ix_cabinet.specs.Scan.{IsRisingNames, rows_of}
+use Rattle.ix_dir.specs.Files.{rows_of}
 
 pub less : (o : Ordering) → is_lt o ≡ true → o ≡ Less
 less Less e = refl
@@ -64,23 +65,23 @@ names_of_rows [] = refl
 names_of_rows (l ∷ listed) = ap (λ rest. l.name ∷ rest) (names_of_rows listed)
 
 -- the names of some of a list that rises rise
-pub some_rise : (p : Listed → Bool) (listed : List Listed) → IsRising listed → IsRisingNames (map (λ l. l.name) (filter p listed))
-some_rise p listed h = sorted_filtered name_cmp (λ l. l.name) p listed (subst IsRisingNames (names_of_rows listed) (rising_keys name_cmp (rows_of listed) h))
+pub some_rise : (p : Listed → Bool) (listed : List Listed) → IsRising listed → IsStrictlySortedBy text_cmp (map (λ l. l.name) (filter p listed))
+some_rise p listed h = sorted_filtered text_cmp (λ l. l.name) p listed (subst (IsStrictlySortedBy text_cmp) (names_of_rows listed) (rising_keys text_cmp (rows_of listed) h))
 
 -- those names of a list that rises which pass a test rise
-pub kept_rise : {E : Type 0} (r : Result (Vec (List ℕ) Global) E) (p : List ℕ → Bool) (names : List (List ℕ)) → IsRisingNames names → IfOk r (λ v. v.items ≡ filter p names) → IfOk r (λ v. IsRisingNames v.items)
-kept_rise (Ok v) p names rise is = subst IsRisingNames (sym is) (IsStrictlySortedBy-filter name_cmp p names rise)
+pub kept_rise : {E : Type 0} (r : Result (Vec (List ℕ) Global) E) (p : List ℕ → Bool) (names : List (List ℕ)) → IsStrictlySortedBy text_cmp names → IfOk r (λ v. v.items ≡ filter p names) → IfOk r (λ v. IsStrictlySortedBy text_cmp v.items)
+kept_rise (Ok v) p names rise is = subst (IsStrictlySortedBy text_cmp) (sym is) (IsStrictlySortedBy-filter text_cmp p names rise)
 kept_rise (Err e) p names rise is = tt
 
-other : (x y : List ℕ) → name_cmp y x ≡ Less → same_name x y ≡ false
+other : (x y : List ℕ) → text_cmp y x ≡ Less → same_name x y ≡ false
 other x y e = texts_ties x y ∙ ap is_eq (nat_list_cmp_total.antisymm x y ∙ ap ordering_reverse e)
 
-below_at : (x : List ℕ) (ys : List Listed) (i : ℕ) (y : Listed) → AllByRecursion (λ k. name_cmp x k ≡ Less) (map (λ l. l.name) ys) → slice_get ys i ≡ Some y → name_cmp x y.name ≡ Less
+below_at : (x : List ℕ) (ys : List Listed) (i : ℕ) (y : Listed) → AllByRecursion (λ k. text_cmp x k ≡ Less) (map (λ l. l.name) ys) → slice_get ys i ≡ Some y → text_cmp x y.name ≡ Less
 below_at x [] i y h at = cc
-below_at x (z ∷ ys) zero y h at = subst (λ l. name_cmp x l.name ≡ Less) (same_Some z y at) h.0
+below_at x (z ∷ ys) zero y h at = subst (λ l. text_cmp x l.name ≡ Less) (same_Some z y at) h.0
 below_at x (z ∷ ys) (suc i) y h at = below_at x ys i y h.1 at
 
-not_before : (xs : List Listed) (i : ℕ) (x : Listed) → IsRisingNames (map (λ l. l.name) xs) → slice_get xs i ≡ Some x → lookup (same_name x.name) (rows_of (take i xs)) ≡ None
+not_before : (xs : List Listed) (i : ℕ) (x : Listed) → IsStrictlySortedBy text_cmp (map (λ l. l.name) xs) → slice_get xs i ≡ Some x → lookup (same_name x.name) (rows_of (take i xs)) ≡ None
 unfolding IsStrictlySortedBy
 not_before [] zero x h at = refl
 not_before [] (suc i) x h at = refl
@@ -90,4 +91,4 @@ not_before (y ∷ ys) (suc i) x h at = rw (other x.name y.name (below_at y.name 
 -- a name that is listed has none of the stamps listed before it
 pub is_new : (listed : List Listed) (i : ℕ) (one : Listed) → IsRising listed → i < length listed → one ≡ get_or listed i one → lookup (same_name one.name) (rows_of (take i listed)) ≡ None
 is_new listed i one rise small is =
-    not_before listed i one (subst IsRisingNames (names_of_rows listed) (rising_keys name_cmp (rows_of listed) rise)) (slice_get-get_or listed i one small ∙ ap Some (sym is))
+    not_before listed i one (subst (IsStrictlySortedBy text_cmp) (names_of_rows listed) (rising_keys text_cmp (rows_of listed) rise)) (slice_get-get_or listed i one small ∙ ap Some (sym is))

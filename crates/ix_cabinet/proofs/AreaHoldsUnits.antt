@@ -6,15 +6,16 @@ use Rattle.std.specs.FinMap.{empty, get-empty}
 use Rattle.std.specs.Option.{option_map}
 use Rattle.ix_dir.specs.declared.area.Area.TheVariants.{Units, Records}
 use Rattle.ix_dir.specs.declared.moves.Move.{Move}
-use Rattle.ix_dir.specs.Files.{File, name_cmp, bytes_at}
+use Rattle.ix_dir.specs.Files.{File, bytes_at}
+use Rattle.ix_types.specs.Row.{text_cmp}
 use Rattle.ix_dir.specs.Images.{Value}
-use Rattle.ix_dir.specs.Leaves.{LeavesAt}
+use Rattle.ix_dir.specs.WhatAChangeLeaves.{LeavesAt}
 use Rattle.ix_dir.specs.Moves.{same_name, area_after}
 use Rattle.ix_cabinet.specs.Scan.{HoldsUnits, IsUnitFile}
 
 pub none_held : (name_of : List ℕ → List ℕ) → HoldsUnits name_of []
 none_held name_of name bytes is =
-    let none : bytes_at (empty {R = name_cmp}) name ≡ None = ap (option_map (λ f. f.bytes)) (get-empty {X = File} name_cmp name) in
+    let none : bytes_at (empty {R = text_cmp}) name ≡ None = ap (option_map (λ f. f.bytes)) (get-empty {X = File} text_cmp name) in
     cc
 
 module _ (name_of : List ℕ → List ℕ) (name : List ℕ) (before now : List Move) (held : HoldsUnits name_of before) where
