@@ -5,6 +5,7 @@ use Rattle.std.specs.Str.{bytes_eq}
 use Rattle.std.proofs.lemmas.List.{append-nil}
 use Rattle.std.proofs.lemmas.Slice.Eq.{bytes_eq-Decides}
 use Rattle.ix_types.specs.declared.row.OccRow.{OccRow}
+use Rattle.ix_types.specs.declared.format.Format.TheVariants.{One}
 use Rattle.ix_script.specs.declared.plan.SymbolPlan.{SymbolPlan}
 use Rattle.ix_script.specs.declared.plan.OccurrencePlan.{OccurrencePlan}
 use Rattle.ix_script.specs.declared.plan.RelationPlan.{RelationPlan}
@@ -23,7 +24,7 @@ stored_rows : (List ℕ → List ℕ) → List RecordPlan → List OccRow
 stored_rows name_of records = rows_of_records (map (λ d. d.dep) (dependencies_of name_of records)) (map (λ d. d.value) (dependencies_of name_of records))
 
 abbrev one_record : List ℕ → List SymbolPlan → List OccurrencePlan → List OccRow
-one_record path symbols occurrences = rows_of_record path (record_value (record { path = path; system = true; symbols = symbols; occurrences = occurrences }))
+one_record path symbols occurrences = rows_of_record path (record_value (record { format = One; path = path; system = true; symbols = symbols; occurrences = occurrences }))
 
 one_row : (path : List ℕ) (s : SymbolPlan) (o : OccurrencePlan) → o.usr ≡ s.usr → o.relations ≡ [] → one_record path (s ∷ []) (o ∷ []) ≡ plan_row path s o ∷ []
 one_row path s o usr none = rw (usr, same_bytes s.usr, none) refl

@@ -5,7 +5,8 @@ use Rattle.std.specs.Ordering.{match_ordering}
 use Rattle.ix_types.specs.declared.row.OccRow.{OccRow}
 use Rattle.ix_types.specs.Row.{occurrence_cmp}
 use Rattle.ix_model.specs.SortedSet.{add_once, sorted_set}
-use Rattle.ix_model.specs.Answer.{rows_with, definitions, definition, declaration}
+use Rattle.ix_types.specs.declared.code.TheConstants.Roles.{DECLARATION, DEFINITION}
+use Rattle.ix_model.specs.Answer.{rows_with, definitions}
 
 match_filled : {X : Type 0} (o : Ordering) (a b c : List X) → 0 < length a → 0 < length b → 0 < length c → 0 < length (match_ordering o a b c)
 match_filled Less a b c p q r = p
@@ -29,13 +30,13 @@ sorted_set_empty cmp [] h = refl
 sorted_set_empty cmp (x ∷ xs) h = absurd (omega arith)
 
 -- without a definition, the declarations are what is defined
-pub definitions-none : (usr : List ℕ) (all : List OccRow) → length (sorted_set occurrence_cmp (rows_with usr definition all)) ≡ 0 → definitions usr all ≡ rows_with usr declaration all
+pub definitions-none : (usr : List ℕ) (all : List OccRow) → length (sorted_set occurrence_cmp (rows_with usr DEFINITION all)) ≡ 0 → definitions usr all ≡ rows_with usr DECLARATION all
 definitions-none usr all none =
-    choose_first (length (rows_with usr definition all)) (no_rows (rows_with usr definition all) none)
+    choose_first (length (rows_with usr DEFINITION all)) (no_rows (rows_with usr DEFINITION all) none)
   where
     no_rows : (xs : List OccRow) → length (sorted_set occurrence_cmp xs) ≡ 0 → length xs ≡ 0
     no_rows [] h = refl
     no_rows (x ∷ xs) h = absurd (omega (arith, sorted_set_filled occurrence_cmp (x ∷ xs) (omega arith), h))
 
-    choose_first : (n : ℕ) → n ≡ 0 → cond (n == 0) (rows_with usr declaration all) (rows_with usr definition all) ≡ rows_with usr declaration all
+    choose_first : (n : ℕ) → n ≡ 0 → cond (n == 0) (rows_with usr DECLARATION all) (rows_with usr DEFINITION all) ≡ rows_with usr DECLARATION all
     choose_first n e = rw e refl

@@ -7,7 +7,8 @@ use Rattle.ix_types.specs.Row.{text_cmp}
 use Rattle.ix_script.specs.declared.plan.UnitPlan.{UnitPlan}
 use Rattle.ix_model.specs.declared.event.Call.TheVariants as calls
 use Rattle.ix_model.specs.declared.event.Outcome.TheVariants.{Synced, Clash}
-use Rattle.ix_model.specs.Units.{Put, unit_named}
+use Rattle.ix_model.specs.declared.publication.Publication.TheVariants.{Put}
+use Rattle.ix_model.specs.Units.{unit_named}
 use Rattle.ix_model.specs.Machine.{State, Given, Publish, visible, publish}
 use Rattle.ix_runs.specs.Job.{stored_of}
 use Rattle.ix_runs.specs.Run.{Run, with_event}

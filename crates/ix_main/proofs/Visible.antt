@@ -12,7 +12,8 @@ use Rattle.std.proofs.lemmas.List.Sums.{fold-append}
 use Rattle.ix_types.specs.Name.{sha_name}
 use Rattle.ix_script.specs.FirstForm.{IsFirstUnit}
 use Rattle.ix_model.specs.declared.event.Outcome.TheVariants.{Clash}
-use Rattle.ix_model.specs.Units.{StoredUnit, changed, units_at, unit_named}
+use Rattle.ix_model.specs.declared.publication.StoredUnit.{StoredUnit}
+use Rattle.ix_model.specs.Units.{changed, units_at, unit_named}
 use Rattle.ix_model.specs.Rows.{rows}
 use Rattle.ix_model.specs.Machine.{State, Stepped, visible, publish, put}
 use Rattle.ix_runs.specs.Job.{stored_of}

@@ -1,11 +1,11 @@
 -- How a call ends, and why.
-use Rattle.std.specs.Prelude.{◌≡◌, ℕ, ◌⊎◌, nat_lt, if◌then◌else◌, List, [], ◌∷◌, length, codes, Option, Result, Ok, Err}
+use Rattle.std.specs.Prelude.{◌≡◌, ℕ, ◌⊎◌, Bool, true, false, nat_lt, if◌then◌else◌, List, [], ◌∷◌, length, codes, Option, Result, Ok, Err}
 use Rattle.ix_io.specs.Transfer.{AppendsPart}
 use Rattle.ix_script.specs.Value.{ScriptValue}
 use Rattle.ix_script.specs.Reading.{script_of}
 use Rattle.ix_script.specs.declared.script.ScriptRefusal.{ScriptRefusal}
-use Rattle.ix_main.specs.declared.plain.Ending.{Ending}
-use Rattle.ix_main.specs.declared.plain.Ending.TheVariants.{Done, BadWords, BadScript, ReadFault, WriteFault, Memory, TooLarge}
+use Rattle.ix_main.specs.declared.ending.Ending.{Ending}
+use Rattle.ix_main.specs.declared.ending.Ending.TheVariants.{Done, BadWords, BadScript, ReadFault, WriteFault, Memory, TooLarge}
 use Rattle.ix_main.specs.Output.{IsOutput, max_input}
 
 -- the one form of words
@@ -21,6 +21,16 @@ status_of ReadFault = 4
 status_of WriteFault = 5
 status_of Memory = 6
 status_of TooLarge = 7
+
+-- a read failed
+abbrev pub is_read_fault : Ending → Bool
+is_read_fault ReadFault = true
+is_read_fault _ = false
+
+-- a write failed
+abbrev pub is_write_fault : Ending → Bool
+is_write_fault WriteFault = true
+is_write_fault _ = false
 
 abbrev accepted_or_refused : Result ScriptValue ScriptRefusal → Ending
 accepted_or_refused (Ok script) = Done

@@ -10,7 +10,8 @@ use Rattle.ix_script.specs.declared.plan.UnitPlan.{UnitPlan}
 use Rattle.ix_script.specs.FirstForm.{IsFirstUnit}
 use Rattle.ix_model.specs.declared.event.Call.{Call}
 use Rattle.ix_model.specs.declared.event.Outcome.{Outcome}
-use Rattle.ix_model.specs.Units.{Publication, Put}
+use Rattle.ix_model.specs.declared.publication.Publication.{Publication}
+use Rattle.ix_model.specs.declared.publication.Publication.TheVariants.{Put}
 use Rattle.ix_runs.specs.Job.{stored_of}
 use Rattle.ix_runs.specs.Run.{Run}
 use Rattle.ix_main.specs.declared.machine.Published.{Published}

@@ -8,10 +8,11 @@ use Rattle.ix_model.specs.Machine.{empty_opening}
 use Rattle.ix_runs.specs.declared.transcript.Transcript.{Transcript}
 use Rattle.ix_runs.specs.Run.{IsReplay}
 use Rattle.ix_runs.specs.Text.{transcript_text}
+use Rattle.ix_main.specs.declared.top_call.TheConstants.{MAX_INPUT}
 
 -- the most bytes that a script has
 abbrev pub max_input : ℕ
-max_input = 16777216
+max_input = MAX_INPUT
 
 -- the text shows the script's replay over an empty store
 pub record IsReplayText (script : ScriptValue) (text : List ℕ) : Type 0 where

@@ -2,12 +2,11 @@
 use Rattle.std.specs.Prelude.{ℕ, List, [], ◌∷◌, map}
 use Rattle.std.specs.List.{fold, flat_map}
 use Rattle.ix_types.specs.declared.row.OccRow.{OccRow}
-use Rattle.ix_types.specs.declared.row.Query.{Query}
 use Rattle.ix_types.specs.declared.row.Row.{Row}
 use Rattle.ix_types.specs.declared.row.Row.TheVariants.{Occ}
 use Rattle.ix_types.specs.Row.{occurrence_cmp}
 use Rattle.ix_model.specs.SortedSet.{add_once, sorted_set}
-use Rattle.ix_model.specs.Answer.{selected}
+use Rattle.ix_model.specs.Answer.{definitions}
 use Rattle.ix_script.specs.declared.plan.SymbolPlan.{SymbolPlan}
 use Rattle.ix_script.specs.declared.plan.OccurrencePlan.{OccurrencePlan}
 use Rattle.ix_script.specs.declared.plan.RecordPlan.{RecordPlan}
@@ -47,6 +46,6 @@ rows_of_plans plans = flat_map (λ plan. first_rows plan.records) plans
 abbrev pub with_rows : List OccRow → List OccRow → List OccRow
 with_rows more rows = fold (λ set row. add_once occurrence_cmp row set) rows more
 
--- the answer to a query over some rows
-abbrev pub answer_over : Query → List OccRow → List Row
-answer_over query rows = map Occ (sorted_set occurrence_cmp (selected query rows))
+-- where a USR is defined among some rows
+abbrev pub answer_over : List ℕ → List OccRow → List Row
+answer_over usr rows = map Occ (sorted_set occurrence_cmp (definitions usr rows))

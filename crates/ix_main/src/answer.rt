@@ -1,23 +1,23 @@
 //! Answers over the plans of the units that are visible.
-ghost use Rattle.std.specs.Prelude.{◌≡◌, ◌≤◌, ◌<◌, ◌^◌, length, map, insert, IfOk, OnOk, IfSome};
-ghost use Rattle.std.specs.Option.{option_to_list, option_map_or};
+ghost use Rattle.std.specs.Prelude.{◌≡◌, ◌<◌, ◌^◌, map, IfOk, OnOk};
+ghost use Rattle.std.specs.Option.{option_to_list};
 ghost use Rattle.std.specs.Str.{bytes_eq};
 ghost use Rattle.ix_types.specs.Row.{occurrence_cmp};
-ghost use Rattle.ix_model.specs.SortedSet.{add_once, sorted_set};
-ghost use Rattle.ix_model.specs.Answer.{rows_with, definitions, has_any};
+ghost use Rattle.ix_model.specs.SortedSet.{sorted_set};
+ghost use Rattle.ix_model.specs.Answer.{rows_with, definitions};
+ghost use Rattle.ix_types.specs.Codes.{has_any};
 ghost use Rattle.ix_main.specs.Plans.{plan_row, first_row, first_rows, rows_of_plans, with_rows, answer_over};
 ghost use Rattle.ix_types.specs.declared.row.Row.TheVariants.{Occ};
 
+use ix_model::{OwnOrder, add_once};
 use ix_script::{OccurrencePlan, RecordPlan, SymbolPlan, UnitPlan};
-use ix_types::{Memory, OccRow, Query, Roles, Row, Seq, Text};
+use ix_types::{Memory, OccRow, Roles, Row, Seq, Text};
 use std::alloc::{AllocError, Global};
-use std::cmp::Ordering;
 
-/// The rows that a query selects of the plans' rows, sorted and without repeats.
-pub fn answer(alloc: Global, query: &Query, plans: &[&UnitPlan]) -> Result<Seq<Row>, Memory>
-    ensures { IfOk result (λ rows. rows ≡ answer_over query.now (rows_of_plans (map (λ p. p.now) plans.now))) }
+/// Where the USR is defined among the plans' rows, sorted and without repeats.
+pub fn answer(alloc: Global, usr: &Text, plans: &[&UnitPlan]) -> Result<Seq<Row>, Memory>
+    ensures { IfOk result (λ rows. rows ≡ answer_over usr.now (rows_of_plans (map (λ p. p.now) plans.now))) }
 {
-    let Query::Def { usr } = query;
     let rows = definitions_of(alloc, plans, usr)?;
     Ok(Seq::of(as_rows(alloc, rows)?))
 }
@@ -81,7 +81,7 @@ fn add_matching(
         ≡ with_rows (rows_with usr.now mask (first_rows plan.now.records)) found.old.items) }
 {
     match matching_row(alloc, plan, usr, mask)? {
-        Some(row) => add_row(found, row),
+        Some(row) => add_once(found, row, &OwnOrder),
         None => Ok(()),
     }
 }
@@ -154,29 +154,4 @@ fn has_role(roles: Roles, mask: Roles) -> bool
     ensures { result ≡ has_any roles mask }
 {
     roles.any(mask)
-}
-
-/// Puts a row at its place among sorted rows, unless it is there.
-fn add_row(rows: &mut Vec<OccRow>, row: OccRow) -> Result<(), Memory>
-    ensures { OnOk result (rows.new.items ≡ add_once occurrence_cmp row rows.old.items) }
-{
-    if let Some(place) = place_of(rows, &row) {
-        rows.insert(place, row)?;
-    }
-    Ok(())
-}
-
-/// Where a row belongs among sorted rows; None where it is there.
-fn place_of(rows: &[OccRow], row: &OccRow) -> Option<usize>
-    ensures within { IfSome result (λ place. place ≤ length rows.now) }
-    ensures place { option_map_or (λ i. insert rows.now i row.now) result rows.now ≡ add_once occurrence_cmp row.now rows.now }
-{
-    for (i, other) in rows.iter().enumerate() {
-        match row.cmp(other) {
-            Ordering::Less => return Some(i),
-            Ordering::Equal => return None,
-            Ordering::Greater => {}
-        }
-    }
-    Some(rows.len())
 }

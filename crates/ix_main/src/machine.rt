@@ -8,8 +8,9 @@ ghost use Rattle.ix_script.specs.declared.plan.Step.TheVariants.{Build, Poll, Re
 ghost use Rattle.std.specs.Map.{lookup};
 ghost use Rattle.std.specs.BTreeMap.{insert_entry, is_at, values};
 ghost use Rattle.ix_types.specs.Row.{text_cmp};
-ghost use Rattle.ix_model.specs.Units.{Put, units_at};
-ghost use Rattle.ix_model.specs.Answer.{answer};
+ghost use Rattle.ix_model.specs.declared.publication.Publication.TheVariants.{Put};
+ghost use Rattle.ix_model.specs.Units.{units_at};
+ghost use Rattle.ix_model.specs.Answer.{definitions_of};
 ghost use Rattle.ix_runs.specs.Job.{stored_of};
 ghost use Rattle.ix_runs.specs.Lane.{asked};
 ghost use Rattle.ix_runs.specs.OneLane.{after_step, asked_from, before_lane, lane_transcript};
@@ -19,7 +20,7 @@ use crate::answer::answer;
 use ix_model::{Call, Event, Outcome};
 use ix_runs::{Answered, AskResult, Transcript};
 use ix_script::{Step, UnitPlan};
-use ix_types::{FileName, Memory, Naming, Query, Row, Seq, Sha};
+use ix_types::{FileName, Memory, Naming, Row, Seq, Sha, Text};
 use std::alloc::{AllocError, Global};
 use std::collections::BTreeMap;
 
@@ -77,8 +78,8 @@ fn take_step<'a>(
         Step::Build(plan) => machine.publish(plan),
         Step::Poll => machine.poll(),
         Step::Refresh => machine.refresh(),
-        Step::Ask(query) => {
-            answers.push(machine.ask(alloc, query)?)?;
+        Step::Ask { usr } => {
+            answers.push(machine.ask(alloc, usr)?)?;
             Ok(())
         }
     }
@@ -163,10 +164,10 @@ impl<'a> Machine<'a> {
         self.record(Call::Adopt, Outcome::At { mark })
     }
 
-    /// Answers a query over the version that is held.
-    fn ask(&self, alloc: Global, query: &Query) -> Result<Answered, Memory>
+    /// Answers where the USR is defined in the version that is held.
+    fn ask(&self, alloc: Global, usr: &Text) -> Result<Answered, Memory>
         requires { IsSound self.now }
-        ensures { IfOk result (λ a. a ≡ asked (map publication_of self.now.published.items) query.now self.now.held) }
+        ensures { IfOk result (λ a. a ≡ asked (map publication_of self.now.published.items) usr.now self.now.held) }
     {
         match self.held {
             None => Ok(Answered {
@@ -175,7 +176,7 @@ impl<'a> Machine<'a> {
             }),
             Some(mark) => Ok(Answered {
                 mark: Some(mark),
-                result: AskResult::Rows(answer_at(alloc, &self.published, mark, query)?),
+                result: AskResult::Rows(answer_at(alloc, &self.published, mark, usr)?),
             }),
         }
     }
@@ -208,13 +209,13 @@ fn answer_at(
     alloc: Global,
     published: &[Published<'_>],
     mark: u64,
-    query: &Query,
+    usr: &Text,
 ) -> Result<Seq<Row>, Memory>
     requires { AllByRecursion (λ p. IsFirstUnit p.plan.now) published.now }
-    ensures { IfOk result (λ rows. rows ≡ answer query.now (units_at (map publication_of published.now) mark)) }
+    ensures { IfOk result (λ rows. rows ≡ definitions_of usr.now (units_at (map publication_of published.now) mark)) }
 {
     let plans = visible_plans(alloc, front(published, mark))?;
-    answer(alloc, query, &plans)
+    answer(alloc, usr, &plans)
 }
 
 /// The first publications, as many as the mark.

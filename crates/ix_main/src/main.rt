@@ -2,33 +2,24 @@
 #![tactic(auto)]
 
 mod answer;
+pub mod ending;
+pub mod laws;
 mod machine;
-pub mod plain;
 #[cfg(test)]
 mod tests;
+pub mod top_call;
 
+use ending::Ending;
 use ix_dir::MemoryDir;
 use ix_io::{ReaderSource, WriterSink};
 use ix_types::Seq;
-use plain::{Ended, Ending, plain};
 use std::alloc::AllocError;
 use std::process::ExitCode;
 use std::rt::Env;
 use std::{env, io};
+use top_call::{Ended, MAX_INPUT, plain};
 
-const HELP: &str = "ix: an index store that is queried while it is built
-
-usage: ix FOLDER replay < SCRIPT    runs a script's lane over an empty store, and prints the transcript
-       ix --help
-       ix --version
-
-The exit status is 0 where the output is whole, 1 for other words, 2 for a script that is refused, 4 where the
-input could not be read, 5 where the output could not be written, 6 where memory was wanting, and 7 where the
-input is larger than 16777216 bytes.
-";
-
-const VERSION: &str = "ix 0.1.0
-";
+const VERSION: &str = "ix 0.1.0";
 
 fn main(rt: HostRuntime) -> ExitCode {
     ExitCode::from(match arguments(&rt) {
@@ -54,15 +45,30 @@ fn arguments<R: Env + AllocGlobal>(rt: &R) -> Result<Vec<String>, AllocError> {
 /// Prints what a lone `--help` or `--version` asks for, or does what the words behind the folder say.
 fn status<R: Input + Print + AllocGlobal>(rt: &R, arguments: &[String]) -> u8 {
     match arguments {
-        [only] if only.as_str() == "--help" => printed(rt, HELP),
-        [only] if only.as_str() == "--version" => printed(rt, VERSION),
+        [only] if only.as_str() == "--help" => after_print(print_help(rt)),
+        [only] if only.as_str() == "--version" => after_print(println!(rt; "{VERSION}")),
         [_, words @ ..] => done(rt, words),
         [] => done(rt, &[]),
     }
 }
 
-fn printed(rt: &impl Print, text: &str) -> u8 {
-    match print!(rt; "{text}") {
+fn print_help(rt: &impl Print) -> io::Result<()> {
+    println!(rt;
+        "ix: an index store that is queried while it is built
+
+usage: ix FOLDER replay < SCRIPT    runs a script's lane over an empty store, and prints the transcript
+       ix --help
+       ix --version
+
+The exit status is 0 where the output is whole, 1 for other words, 2 for a script that is refused, 4 where the
+input could not be read, 5 where the output could not be written, 6 where memory was wanting, and 7 where the
+input is larger than {MAX_INPUT} bytes."
+    )
+}
+
+/// The exit status once something was printed, or not.
+fn after_print(printed: io::Result<()>) -> u8 {
+    match printed {
         Ok(()) => Ending::Done.status(),
         Err(_) => Ending::WriteFault.status(),
     }

@@ -1,167 +1,161 @@
 //! Calls over a source, a sink and a directory in memory.
-use crate::plain::{Ended, Ending, plain};
+use crate::ending::Ending;
+use crate::top_call::{MAX_INPUT, plain};
 use ix_dir::MemoryDir;
 use ix_io::{MemorySink, MemorySource};
-use ix_script::ScriptRefusal;
 use ix_types::Seq;
 use std::alloc::{AllocError, Global};
 use std::test::Fail;
 
-const ONE_BUILD: &[u8] =
-    b"{\"format\":1,\"lanes\":[[{\"do\":\"build\",\"unit\":{\"output\":\"abc\",\"main\":\"a.swift\",\"module\":\"M\",\"records\":[{\"path\":\"a.swift\",\"symbols\":[{\"usr\":\"s:1MA\",\"name\":\"A\",\"kind\":\"Struct\"}],\"occurrences\":[{\"usr\":\"s:1MA\",\"line\":1,\"col\":8,\"roles\":[\"Definition\"]}]}]}},{\"do\":\"poll\"},{\"do\":\"refresh\"},{\"do\":\"ask\",\"query\":\"def\",\"usr\":\"s:1MA\"}]]}";
+/// The steps of a lane, and the transcript, with ; for each newline and ~ for each tab. A build is its output path and the line of its
+/// one occurrence.
+const WORKED: &str = "\
+ => end 0;
+ask => ask 0 0 none;end 0;
+refresh ask => 0 adopt 0;ask 0 0 at 0 rows 0;end 1;
+abc:1 poll refresh ask => 0 publish ba7816bf8f01cfea414140de5dae2223b00361a396177a9cb410ff61f20015ad synced;0 scan ok 1;0 install 1;0 adopt 1;ask 0 0 at 1 rows 1;row~a.swift~1~8~Definition~Struct~Swift~-~s:1MA~A;end 4;
+abc:1 abd:1 poll ask refresh ask => 0 publish ba7816bf8f01cfea414140de5dae2223b00361a396177a9cb410ff61f20015ad synced;0 publish a52d159f262b2c6ddb724a61840befc36eb30c88877a4030b65cbe86298449c9 synced;0 scan ok 2;0 install 2;0 adopt 2;ask 0 0 at 2 rows 1;row~a.swift~1~8~Definition~Struct~Swift~-~s:1MA~A;ask 0 1 at 2 rows 1;row~a.swift~1~8~Definition~Struct~Swift~-~s:1MA~A;end 5;
+abc:1 abc:2 poll refresh ask => 0 publish ba7816bf8f01cfea414140de5dae2223b00361a396177a9cb410ff61f20015ad synced;0 publish ba7816bf8f01cfea414140de5dae2223b00361a396177a9cb410ff61f20015ad synced;0 scan ok 2;0 install 2;0 adopt 2;ask 0 0 at 2 rows 1;row~a.swift~2~8~Definition~Struct~Swift~-~s:1MA~A;end 5;
+abc:1 poll ask abc:2 refresh ask poll ask => 0 publish ba7816bf8f01cfea414140de5dae2223b00361a396177a9cb410ff61f20015ad synced;0 scan ok 1;0 install 1;0 publish ba7816bf8f01cfea414140de5dae2223b00361a396177a9cb410ff61f20015ad synced;0 adopt 1;0 scan ok 2;0 install 2;ask 0 0 at 1 rows 1;row~a.swift~1~8~Definition~Struct~Swift~-~s:1MA~A;ask 0 1 at 1 rows 1;row~a.swift~1~8~Definition~Struct~Swift~-~s:1MA~A;ask 0 2 at 2 rows 1;row~a.swift~2~8~Definition~Struct~Swift~-~s:1MA~A;end 7;
+";
 
-const ONE_BUILD_SHOWS: &[u8] =
-    b"0 publish ba7816bf8f01cfea414140de5dae2223b00361a396177a9cb410ff61f20015ad synced\n0 scan ok 1\n0 install 1\n0 adopt 1\nask 0 0 at 1 rows 1\nrow\ta.swift\t1\t8\tDefinition\tStruct\tSwift\t-\ts:1MA\tA\nend 4\n";
-
-const NO_LANE: &[u8] = b"{\"format\":1,\"lanes\":[]}";
-
-const NO_LANE_SHOWS: &[u8] = b"end 0\n";
-
-const ASKS_WITHOUT_A_VERSION: &[u8] =
-    b"{\"format\":1,\"lanes\":[[{\"do\":\"ask\",\"query\":\"def\",\"usr\":\"s:1MA\"}]]}";
-
-const ASKS_WITHOUT_A_VERSION_SHOWS: &[u8] = b"ask 0 0 none\nend 0\n";
-
-const ADOPTS_NOTHING: &[u8] =
-    b"{\"format\":1,\"lanes\":[[{\"do\":\"refresh\"},{\"do\":\"ask\",\"query\":\"def\",\"usr\":\"s:1MA\"}]]}";
-
-const ADOPTS_NOTHING_SHOWS: &[u8] = b"0 adopt 0\nask 0 0 at 0 rows 0\nend 1\n";
-
-const TWO_UNITS_OF_ONE_ROW: &[u8] =
-    b"{\"format\":1,\"lanes\":[[{\"do\":\"build\",\"unit\":{\"output\":\"abc\",\"main\":\"a.swift\",\"module\":\"M\",\"records\":[{\"path\":\"a.swift\",\"symbols\":[{\"usr\":\"s:1MA\",\"name\":\"A\",\"kind\":\"Struct\"}],\"occurrences\":[{\"usr\":\"s:1MA\",\"line\":1,\"col\":8,\"roles\":[\"Definition\"]}]}]}},{\"do\":\"build\",\"unit\":{\"output\":\"abd\",\"main\":\"a.swift\",\"module\":\"M\",\"records\":[{\"path\":\"a.swift\",\"symbols\":[{\"usr\":\"s:1MA\",\"name\":\"A\",\"kind\":\"Struct\"}],\"occurrences\":[{\"usr\":\"s:1MA\",\"line\":1,\"col\":8,\"roles\":[\"Definition\"]}]}]}},{\"do\":\"poll\"},{\"do\":\"ask\",\"query\":\"def\",\"usr\":\"s:1MA\"},{\"do\":\"refresh\"},{\"do\":\"ask\",\"query\":\"def\",\"usr\":\"s:1MA\"}]]}";
-
-const TWO_UNITS_OF_ONE_ROW_SHOWS: &[u8] =
-    b"0 publish ba7816bf8f01cfea414140de5dae2223b00361a396177a9cb410ff61f20015ad synced\n0 publish a52d159f262b2c6ddb724a61840befc36eb30c88877a4030b65cbe86298449c9 synced\n0 scan ok 2\n0 install 2\n0 adopt 2\nask 0 0 at 2 rows 1\nrow\ta.swift\t1\t8\tDefinition\tStruct\tSwift\t-\ts:1MA\tA\nask 0 1 at 2 rows 1\nrow\ta.swift\t1\t8\tDefinition\tStruct\tSwift\t-\ts:1MA\tA\nend 5\n";
-
-const A_UNIT_REPLACED: &[u8] =
-    b"{\"format\":1,\"lanes\":[[{\"do\":\"build\",\"unit\":{\"output\":\"abc\",\"main\":\"a.swift\",\"module\":\"M\",\"records\":[{\"path\":\"a.swift\",\"symbols\":[{\"usr\":\"s:1MA\",\"name\":\"A\",\"kind\":\"Struct\"}],\"occurrences\":[{\"usr\":\"s:1MA\",\"line\":1,\"col\":8,\"roles\":[\"Definition\"]}]}]}},{\"do\":\"build\",\"unit\":{\"output\":\"abc\",\"main\":\"a.swift\",\"module\":\"M\",\"records\":[{\"path\":\"a.swift\",\"symbols\":[{\"usr\":\"s:1MA\",\"name\":\"A\",\"kind\":\"Struct\"}],\"occurrences\":[{\"usr\":\"s:1MA\",\"line\":2,\"col\":8,\"roles\":[\"Definition\"]}]}]}},{\"do\":\"poll\"},{\"do\":\"refresh\"},{\"do\":\"ask\",\"query\":\"def\",\"usr\":\"s:1MA\"}]]}";
-
-const A_UNIT_REPLACED_SHOWS: &[u8] =
-    b"0 publish ba7816bf8f01cfea414140de5dae2223b00361a396177a9cb410ff61f20015ad synced\n0 publish ba7816bf8f01cfea414140de5dae2223b00361a396177a9cb410ff61f20015ad synced\n0 scan ok 2\n0 install 2\n0 adopt 2\nask 0 0 at 2 rows 1\nrow\ta.swift\t2\t8\tDefinition\tStruct\tSwift\t-\ts:1MA\tA\nend 5\n";
-
-const A_VERSION_HELD: &[u8] =
-    b"{\"format\":1,\"lanes\":[[{\"do\":\"build\",\"unit\":{\"output\":\"abc\",\"main\":\"a.swift\",\"module\":\"M\",\"records\":[{\"path\":\"a.swift\",\"symbols\":[{\"usr\":\"s:1MA\",\"name\":\"A\",\"kind\":\"Struct\"}],\"occurrences\":[{\"usr\":\"s:1MA\",\"line\":1,\"col\":8,\"roles\":[\"Definition\"]}]}]}},{\"do\":\"poll\"},{\"do\":\"ask\",\"query\":\"def\",\"usr\":\"s:1MA\"},{\"do\":\"build\",\"unit\":{\"output\":\"abc\",\"main\":\"a.swift\",\"module\":\"M\",\"records\":[{\"path\":\"a.swift\",\"symbols\":[{\"usr\":\"s:1MA\",\"name\":\"A\",\"kind\":\"Struct\"}],\"occurrences\":[{\"usr\":\"s:1MA\",\"line\":2,\"col\":8,\"roles\":[\"Definition\"]}]}]}},{\"do\":\"refresh\"},{\"do\":\"ask\",\"query\":\"def\",\"usr\":\"s:1MA\"},{\"do\":\"poll\"},{\"do\":\"ask\",\"query\":\"def\",\"usr\":\"s:1MA\"}]]}";
-
-const A_VERSION_HELD_SHOWS: &[u8] =
-    b"0 publish ba7816bf8f01cfea414140de5dae2223b00361a396177a9cb410ff61f20015ad synced\n0 scan ok 1\n0 install 1\n0 publish ba7816bf8f01cfea414140de5dae2223b00361a396177a9cb410ff61f20015ad synced\n0 adopt 1\n0 scan ok 2\n0 install 2\nask 0 0 at 1 rows 1\nrow\ta.swift\t1\t8\tDefinition\tStruct\tSwift\t-\ts:1MA\tA\nask 0 1 at 1 rows 1\nrow\ta.swift\t1\t8\tDefinition\tStruct\tSwift\t-\ts:1MA\tA\nask 0 2 at 2 rows 1\nrow\ta.swift\t2\t8\tDefinition\tStruct\tSwift\t-\ts:1MA\tA\nend 7\n";
-
-const REPLAY: &[&[u8]] = &[b"replay"];
-
-/// How a call ended, and what the sink then held.
-#[derive(Drop)]
-struct Given {
-    status: u8,
-    ending: Ending,
-    written: Vec<u8>,
+/// A script of one lane with these steps.
+fn script_of(alloc: Global, steps: &str) -> Result<String, AllocError> {
+    let mut script = String::new(alloc);
+    script.push_str(r#"{"format":1,"lanes":[["#)?;
+    for (i, step) in steps.split_whitespace().enumerate() {
+        script.push_str(if i == 0 { "" } else { "," })?;
+        push_step(&mut script, step)?;
+    }
+    script.push_str("]]}")?;
+    Ok(script)
 }
 
-/// The most bytes of a read and of a write, and the numbers of those that fail.
+fn push_step(script: &mut String, step: &str) -> Result<(), AllocError> {
+    match step.split_once(':') {
+        Some((output, line)) => push_build(script, output, line),
+        None if step == "ask" => script.push_str(r#"{"do":"ask","query":"def","usr":"s:1MA"}"#),
+        None => {
+            script.push_str(r#"{"do":""#)?;
+            script.push_str(step)?;
+            script.push_str(r#""}"#)
+        }
+    }
+}
+
+fn push_build(script: &mut String, output: &str, line: &str) -> Result<(), AllocError> {
+    script.push_str(r#"{"do":"build","unit":{"output":""#)?;
+    script.push_str(output)?;
+    script.push_str(r#"","main":"a.swift","module":"M","records":[{"path":"a.swift","#)?;
+    script.push_str(
+        r#""symbols":[{"usr":"s:1MA","name":"A","kind":"Struct"}],"occurrences":[{"usr":"s:1MA","line":"#,
+    )?;
+    script.push_str(line)?;
+    script.push_str(r#","col":8,"roles":["Definition"]}]}]}}"#)
+}
+
+/// Whether these are the bytes of a transcript as the table has it.
+fn is_transcript(bytes: &[u8], shown: &str) -> bool {
+    bytes.len() == shown.len()
+        && bytes.iter().zip(shown.bytes()).all(|(byte, shown)| match shown {
+            b';' => *byte == b'\n',
+            b'~' => *byte == b'\t',
+            _ => *byte == shown,
+        })
+}
+
+/// The most bytes of a read and of a write, and the number of the read and of the write that fails: none where it is 0.
 #[derive(Clone, Copy)]
-struct Pieces<'a> {
+struct Pieces {
     read: usize,
-    failing_reads: &'a [u64],
+    failing_read: u64,
     write: usize,
-    failing_writes: &'a [u64],
+    failing_write: u64,
 }
 
-const WHOLE: Pieces<'static> = Pieces {
+const WHOLE: Pieces = Pieces {
     read: 1 << 20,
-    failing_reads: &[],
+    failing_read: 0,
     write: 1 << 20,
-    failing_writes: &[],
+    failing_write: 0,
 };
 
-fn call(
-    alloc: Global,
-    words: &[&[u8]],
-    input: &[u8],
-    pieces: &Pieces<'_>,
-) -> Result<Given, AllocError> {
-    let mut all = Vec::new(alloc);
-    for word in words {
-        all.push(Seq::of(word.to_vec(alloc)?))?;
+fn source_of(alloc: Global, input: &[u8], pieces: Pieces) -> Result<MemorySource, AllocError> {
+    let bytes = Seq::of(input.to_vec(alloc)?);
+    let fails = Seq::of(Vec::from_slice(alloc, &[pieces.failing_read])?);
+    Ok(MemorySource::new(bytes, pieces.read.max(1), fails))
+}
+
+fn sink_of(alloc: Global, pieces: Pieces) -> Result<MemorySink, AllocError> {
+    let fails = Seq::of(Vec::from_slice(alloc, &[pieces.failing_write])?);
+    Ok(MemorySink::new(alloc, pieces.write.max(1), fails))
+}
+
+fn replay_alone(alloc: Global) -> Result<Seq<Seq<u8>>, AllocError> {
+    let mut words = Vec::new(alloc);
+    words.push(Seq::of(b"replay".to_vec(alloc)?))?;
+    Ok(Seq::of(words))
+}
+
+/// Whether a replay from the source to the sink ends so.
+fn ends(alloc: Global, source: &mut MemorySource, sink: &mut MemorySink, ending: Ending) -> bool {
+    match replay_alone(alloc) {
+        Ok(words) => plain(alloc, &words, source, sink, MemoryDir::new(alloc)).ending == ending,
+        Err(_) => false,
     }
-    let mut source = MemorySource::new(
-        Seq::of(input.to_vec(alloc)?),
-        pieces.read.max(1),
-        Seq::of(pieces.failing_reads.to_vec(alloc)?),
-    );
-    let mut sink = MemorySink::new(
-        alloc,
-        pieces.write.max(1),
-        Seq::of(pieces.failing_writes.to_vec(alloc)?),
-    );
-    let words = Seq::of(all);
-    let ended = plain(alloc, &words, &mut source, &mut sink, MemoryDir::new(alloc));
-    let Ended { status, ending, .. } = ended;
-    Ok(Given {
-        status,
-        ending,
-        written: sink.written().to_vec(alloc)?,
-    })
+}
+
+/// Whether a replay of the steps ends so, with this transcript.
+fn shows(
+    alloc: Global,
+    steps: &str,
+    pieces: Pieces,
+    ending: Ending,
+    shown: &str,
+) -> Result<bool, AllocError> {
+    let mut source = source_of(alloc, script_of(alloc, steps)?.as_bytes(), pieces)?;
+    let mut sink = sink_of(alloc, pieces)?;
+    Ok(ends(alloc, &mut source, &mut sink, ending) && is_transcript(sink.written(), shown))
 }
 
 #[test]
 fn worked_scripts_show_their_transcripts(rt: HostRuntime) -> Result<(), Fail> {
-    let by_ones = Pieces {
-        read: 1,
-        failing_reads: &[],
-        write: 1,
-        failing_writes: &[],
-    };
-    for (script, shows) in [
-        (ONE_BUILD, ONE_BUILD_SHOWS),
-        (NO_LANE, NO_LANE_SHOWS),
-        (ASKS_WITHOUT_A_VERSION, ASKS_WITHOUT_A_VERSION_SHOWS),
-        (ADOPTS_NOTHING, ADOPTS_NOTHING_SHOWS),
-        (TWO_UNITS_OF_ONE_ROW, TWO_UNITS_OF_ONE_ROW_SHOWS),
-        (A_UNIT_REPLACED, A_UNIT_REPLACED_SHOWS),
-        (A_VERSION_HELD, A_VERSION_HELD_SHOWS),
-    ] {
-        for pieces in [&WHOLE, &by_ones] {
-            let given = call(rt.alloc(), REPLAY, script, pieces)?;
-            assert_eq!(rt; given.status, 0);
-            assert_eq!(rt; given.written.as_slice(), shows);
+    for line in WORKED.lines() {
+        if let Some((steps, shown)) = line.split_once(" => ") {
+            assert!(rt;
+                shows(rt.alloc(), steps, WHOLE, Ending::Done, shown)?,
+                "{line}"
+            );
         }
     }
     Ok(())
 }
 
+/// Whether the third of the worked scripts ends so, with this output.
+fn one_build_shows(
+    alloc: Global,
+    pieces: Pieces,
+    ending: Ending,
+    shown: &str,
+) -> Result<bool, AllocError> {
+    shows(alloc, "abc:1 poll refresh ask", pieces, ending, shown)
+}
+
 #[test]
-fn words_and_scripts_of_no_form_have_their_statuses(rt: HostRuntime) -> Result<(), Fail> {
-    let cases: [(&[&[u8]], &[u8], Ending, u8); 10] = [
-        (&[], NO_LANE, Ending::BadWords, 1),
-        (&[b"replay", b"x"], NO_LANE, Ending::BadWords, 1),
-        (&[b"gen", b"0"], NO_LANE, Ending::BadWords, 1),
-        (&[b"Replay"], NO_LANE, Ending::BadWords, 1),
-        (&[b"live"], NO_LANE, Ending::BadWords, 1),
-        (&[b"check"], NO_LANE, Ending::BadWords, 1),
-        (REPLAY, b"", Ending::BadScript(ScriptRefusal::NotJson), 2),
-        (
-            REPLAY,
-            b"{\"format\":1,\"lanes\":[]",
-            Ending::BadScript(ScriptRefusal::NotJson),
-            2,
-        ),
-        (
-            REPLAY,
-            b"{\"format\":1,\"lanes\":[[],[]]}",
-            Ending::BadScript(ScriptRefusal::NotFirst),
-            2,
-        ),
-        (
-            REPLAY,
-            b"\xff",
-            Ending::BadScript(ScriptRefusal::NotJson),
-            2,
-        ),
-    ];
-    for (words, input, ending, status) in cases {
-        let given = call(rt.alloc(), words, input, &WHOLE)?;
-        assert_eq!(rt; given.ending, ending);
-        assert_eq!(rt; given.status, status);
-        assert_eq!(rt; given.written.len(), 0);
-    }
+fn a_replay_moves_its_bytes_in_any_pieces(rt: HostRuntime) -> Result<(), Fail> {
+    let pieces = Pieces {
+        read: 1,
+        write: 1,
+        ..WHOLE
+    };
+    assert!(rt;
+        one_build_shows(
+            rt.alloc(),
+            pieces,
+            Ending::Done,
+            "0 publish ba7816bf8f01cfea414140de5dae2223b00361a396177a9cb410ff61f20015ad synced;0 scan ok 1;0 install 1;0 adopt 1;ask 0 0 at 1 rows 1;row~a.swift~1~8~Definition~Struct~Swift~-~s:1MA~A;end 4;"
+        )?
+    );
     Ok(())
 }
 
@@ -169,62 +163,25 @@ fn words_and_scripts_of_no_form_have_their_statuses(rt: HostRuntime) -> Result<(
 fn a_failed_read_writes_nothing(rt: HostRuntime) -> Result<(), Fail> {
     let pieces = Pieces {
         read: 100,
-        failing_reads: &[2],
-        write: 10,
-        failing_writes: &[],
+        failing_read: 2,
+        ..WHOLE
     };
-    let given = call(rt.alloc(), REPLAY, ONE_BUILD, &pieces)?;
-    assert_eq!(rt; given.ending, Ending::ReadFault);
-    assert_eq!(rt; given.status, 4);
-    assert_eq!(rt; given.written.len(), 0);
+    assert!(rt; one_build_shows(rt.alloc(), pieces, Ending::ReadFault, "")?);
     Ok(())
 }
 
 #[test]
 fn a_failed_write_leaves_a_front(rt: HostRuntime) -> Result<(), Fail> {
     let pieces = Pieces {
-        read: 100,
-        failing_reads: &[],
         write: 10,
-        failing_writes: &[2],
+        failing_write: 2,
+        ..WHOLE
     };
-    let given = call(rt.alloc(), REPLAY, ONE_BUILD, &pieces)?;
-    assert_eq!(rt; given.ending, Ending::WriteFault);
-    assert_eq!(rt; given.status, 5);
-    assert_eq!(rt; given.written.as_slice(), b"0 publish ".as_slice());
+    assert!(rt; one_build_shows(rt.alloc(), pieces, Ending::WriteFault, "0 publish ")?);
     Ok(())
 }
 
 #[test]
-fn an_output_path_has_at_most_4096_bytes(rt: HostRuntime) -> Result<(), Fail> {
-    for (len, status) in [(4096, 0), (4097, 2)] {
-        let mut script =
-            b"{\"format\":1,\"lanes\":[[{\"do\":\"build\",\"unit\":{\"output\":\"".to_vec(
-                rt.alloc(),
-            )?;
-        for _ in 0..len {
-            script.push(b'a')?;
-        }
-        script.extend_from_slice(b"\",\"main\":\"\",\"module\":\"\",\"records\":[]}}]]}")?;
-        let given = call(rt.alloc(), REPLAY, &script, &WHOLE)?;
-        assert_eq!(rt; given.status, status);
-    }
-    Ok(())
-}
-
-#[test]
-fn an_input_has_at_most_16777216_bytes(rt: HostRuntime) -> Result<(), Fail> {
-    for (len, ending, status) in [
-        (16_777_216, Ending::Done, 0),
-        (16_777_217, Ending::TooLarge, 7),
-    ] {
-        let mut script = NO_LANE.to_vec(rt.alloc())?;
-        for _ in script.len()..len {
-            script.push(b' ')?;
-        }
-        let given = call(rt.alloc(), REPLAY, &script, &WHOLE)?;
-        assert_eq!(rt; given.ending, ending);
-        assert_eq!(rt; given.status, status);
-    }
-    Ok(())
+fn a_script_has_at_most_16777216_bytes(rt: HostRuntime) {
+    assert_eq!(rt; MAX_INPUT, 16_777_216);
 }

@@ -1,13 +1,16 @@
 -- The rows that are definitions, from the filters that select them.
-use Rattle.std.proofs.Common.{◌≡◌, ◌↔◌, ℕ, suc, ◌⊎◌, inl, inr, Bool, true, false, cond, ◌&&◌, ◌==◌, if◌then◌else◌, List, [], ◌∷◌, length, map, filter, Contains, refl, sym, ap, ◌∙◌, subst, arith}
+use Rattle.std.proofs.Common.{◌≡◌, ◌↔◌, ℕ, zero, suc, not, ◌<◌, ◌⊎◌, inl, inr, Bool, true, false, cond, ◌&&◌, ◌==◌, if◌then◌else◌, List, [], ◌∷◌, length, map, filter, Contains, refl, sym, ap, ◌∙◌, subst, arith, ◌^◌, ◌*◌, bit_and, nat_eq}
+use Rattle.std.specs.Int.{bit_at}
+use Rattle.std.proofs.lemmas.Nat.{pow_pos}
+use Rattle.std.proofs.lemmas.Nat.Bits.{and_pow, bit_at-lt}
 use Rattle.std.specs.Str.{bytes_eq}
 use Rattle.std.proofs.lemmas.Slice.Eq.{bytes_eq-Decides}
+use Rattle.ix_types.specs.Codes.{has_any}
+use Rattle.ix_types.specs.declared.code.TheConstants.Roles.{DECLARATION, DEFINITION}
 use Rattle.ix_types.specs.Row.{occurrence_cmp}
 use Rattle.ix_types.specs.declared.row.OccRow.{OccRow}
-use Rattle.ix_types.specs.declared.row.Query.TheVariants.{Def}
-use Rattle.ix_types.specs.declared.row.Row.{Row}
 use Rattle.ix_types.specs.declared.row.Row.TheVariants.{Occ}
-use Rattle.ix_model.specs.Answer.{declaration, definition, has_any, rows_with, definitions, answer, IsDefinition, IsDeclaration, HasNoDefinition, IsAmongDefinitions}
+use Rattle.ix_model.specs.Answer.{is_with, rows_with, definitions, definitions_of, IsDefinition, IsDeclaration, HasNoDefinition, IsAmongDefinitions}
 use Rattle.ix_model.specs.Rows.{rows}
 use Rattle.ix_model.specs.SortedSet.{sorted_set}
 use Rattle.ix_model.specs.Units.{Units}
@@ -66,50 +69,56 @@ true-both : (a b : Bool) → a ≡ true → b ≡ true → (a && b) ≡ true
 true-both true b e f = f
 true-both false b e f = absurd (cc)
 
+-- a mask of one bit
+of_bit : (bit power : ℕ) → bit < 2 → 0 < power → (not (bit * power == 0) ≡ true) ↔ (bit ≡ 1)
+of_bit zero power small some = (λ e. grind (arith, e), λ e. absurd (omega (arith, e)))
+of_bit (suc zero) power small some = (λ e. refl, λ e. grind (arith, some))
+of_bit (suc (suc bit)) power small some = absurd (omega arith)
+
+has_bit : (roles i : ℕ) → (has_any roles (2 ^ i) ≡ true) ↔ (bit_at roles i ≡ 1)
+has_bit roles i = rw (and_pow roles i) (of_bit (bit_at roles i) (2 ^ i) (bit_at-lt roles i) (pow_pos i))
+
 with-out : (usr : List ℕ) (mask : ℕ) (all : List OccRow) (row : OccRow) → Has (rows_with usr mask all) row → Has all row × (row.usr ≡ usr) × (has_any row.roles mask ≡ true)
 with-out usr mask all row h =
-    let kept = filter-out (λ (r : OccRow). bytes_eq r.usr usr && has_any r.roles mask) all row h in
+    let kept = filter-out (is_with usr mask) all row h in
     let parts = both-true (bytes_eq row.usr usr) (has_any row.roles mask) kept.1 in
     (kept.0, (bytes_eq-Decides row.usr usr).0 parts.0, parts.1)
 
 with-in : (usr : List ℕ) (mask : ℕ) (all : List OccRow) (row : OccRow) → Has all row → row.usr ≡ usr → has_any row.roles mask ≡ true → Has (rows_with usr mask all) row
 with-in usr mask all row h e t =
-    filter-in (λ (r : OccRow). bytes_eq r.usr usr && has_any r.roles mask) all row h
+    filter-in (is_with usr mask) all row h
     (true-both (bytes_eq row.usr usr) (has_any row.roles mask) ((bytes_eq-Decides row.usr usr).1 e) t)
 
 module _ (usr : List ℕ) (all : List OccRow) where
-  definition-out : (row : OccRow) → Has (rows_with usr definition all) row → Contains all row × IsDefinition usr row
-  definition-out row h = let r = with-out usr definition all row h in (Contains-from_Has all row r.0, record { of_usr = r.1; defines = r.2 })
+  definition-out : (row : OccRow) → Has (rows_with usr DEFINITION all) row → Contains all row × IsDefinition usr row
+  definition-out row h = let r = with-out usr DEFINITION all row h in (Contains-from_Has all row r.0, record { of_usr = r.1; defines = (has_bit row.roles 1).0 r.2 })
 
-  definition-in : (row : OccRow) → Contains all row → IsDefinition usr row → Has (rows_with usr definition all) row
-  definition-in row c d = with-in usr definition all row (Has-from_Contains all row c) d.of_usr d.defines
+  definition-in : (row : OccRow) → Contains all row → IsDefinition usr row → Has (rows_with usr DEFINITION all) row
+  definition-in row c d = with-in usr DEFINITION all row (Has-from_Contains all row c) d.of_usr ((has_bit row.roles 1).1 d.defines)
 
-  declaration-out : (row : OccRow) → Has (rows_with usr declaration all) row → Contains all row × IsDeclaration usr row
-  declaration-out row h = let r = with-out usr declaration all row h in (Contains-from_Has all row r.0, record { of_usr = r.1; declares = r.2 })
+  declaration-out : (row : OccRow) → Has (rows_with usr DECLARATION all) row → Contains all row × IsDeclaration usr row
+  declaration-out row h = let r = with-out usr DECLARATION all row h in (Contains-from_Has all row r.0, record { of_usr = r.1; declares = (has_bit row.roles 0).0 r.2 })
 
-  declaration-in : (row : OccRow) → Contains all row → IsDeclaration usr row → Has (rows_with usr declaration all) row
-  declaration-in row c d = with-in usr declaration all row (Has-from_Contains all row c) d.of_usr d.declares
+  declaration-in : (row : OccRow) → Contains all row → IsDeclaration usr row → Has (rows_with usr DECLARATION all) row
+  declaration-in row c d = with-in usr DECLARATION all row (Has-from_Contains all row c) d.of_usr ((has_bit row.roles 0).1 d.declares)
 
-  out : (row : OccRow) → Has (rows_with usr definition all) row ⊎ (((y : OccRow) → Has (rows_with usr definition all) y → ⊥) × Has (rows_with usr declaration all) row) → IsAmongDefinitions usr all row
+  out : (row : OccRow) → Has (rows_with usr DEFINITION all) row ⊎ (((y : OccRow) → Has (rows_with usr DEFINITION all) y → ⊥) × Has (rows_with usr DECLARATION all) row) → IsAmongDefinitions usr all row
   out row (inl h) = let d = definition-out row h in (d.0, inl d.1)
   out row (inr h) = let d = declaration-out row h.1 in (d.0, inr (λ other c e. h.0 other (definition-in other c e), d.1))
 
-  into : (row : OccRow) → Contains all row → IsDefinition usr row ⊎ (HasNoDefinition usr all × IsDeclaration usr row) → Has (rows_with usr definition all) row ⊎ (((y : OccRow) → Has (rows_with usr definition all) y → ⊥) × Has (rows_with usr declaration all) row)
+  into : (row : OccRow) → Contains all row → IsDefinition usr row ⊎ (HasNoDefinition usr all × IsDeclaration usr row) → Has (rows_with usr DEFINITION all) row ⊎ (((y : OccRow) → Has (rows_with usr DEFINITION all) y → ⊥) × Has (rows_with usr DECLARATION all) row)
   into row c (inl d) = inl (definition-in row c d)
   into row c (inr d) = inr (λ other h. let e = definition-out other h in d.0 other e.0 e.1, declaration-in row c d.1)
 
   pub definitions-among : (row : OccRow) → Contains (definitions usr all) row ↔ IsAmongDefinitions usr all row
   definitions-among row = (
-    λ c. out row (chosen-out (rows_with usr definition all) (rows_with usr declaration all) row (Has-from_Contains (definitions usr all) row c)),
-    λ d. Contains-from_Has (definitions usr all) row (chosen-in (rows_with usr definition all) (rows_with usr declaration all) row (into row d.0 d.1)),
+    λ c. out row (chosen-out (rows_with usr DEFINITION all) (rows_with usr DECLARATION all) row (Has-from_Contains (definitions usr all) row c)),
+    λ d. Contains-from_Has (definitions usr all) row (chosen-in (rows_with usr DEFINITION all) (rows_with usr DECLARATION all) row (into row d.0 d.1)),
   )
-
-abbrev occurrence_of : Row → OccRow
-occurrence_of (Occ row) = row
 
 occ-out : (xs : List OccRow) (row : OccRow) → Has (map Occ xs) (Occ row) → Has xs row
 occ-out [] row h = absurd h
-occ-out (x ∷ xs) row (inl e) = inl (ap occurrence_of e)
+occ-out (x ∷ xs) row (inl e) = inl (cc)
 occ-out (x ∷ xs) row (inr h) = inr (occ-out xs row h)
 
 occ-in : (xs : List OccRow) (row : OccRow) → Has xs row → Has (map Occ xs) (Occ row)
@@ -126,7 +135,7 @@ Contains-answered chosen row =
       λ c. Contains-from_Has (map Occ set) (Occ row) (occ-in set row (Has-from_Contains set row (same.1 c))),
     )
 
-pub answer-among : (usr : List ℕ) (units : Units) (row : OccRow) → Contains (answer (Def usr) units) (Occ row) ↔ IsAmongDefinitions usr (rows units) row
+pub answer-among : (usr : List ℕ) (units : Units) (row : OccRow) → Contains (definitions_of usr units) (Occ row) ↔ IsAmongDefinitions usr (rows units) row
 answer-among usr units row =
     let answered = Contains-answered (definitions usr (rows units)) row in
     let among = definitions-among usr (rows units) row in

@@ -1,5 +1,5 @@
 -- What a change of a map leaves at each name, and that names keep rising.
-use Rattle.std.proofs.Common.{◌≡◌, ◌≢◌, ℕ, ◌+◌, ◌≤◌, Bool, true, false, cond, List, [], ◌∷◌, ◌++◌, length, take, fold, Some, None, refl, sym, ap, ◌∙◌, arith}
+use Rattle.std.proofs.Common.{◌≡◌, ◌≢◌, ℕ, zero, suc, ◌+◌, ◌≤◌, Bool, true, false, cond, List, [], ◌∷◌, ◌++◌, length, take, fold, Some, None, refl, sym, ap, ◌∙◌, arith}
 use Rattle.std.specs.declared.cmp.Ordering.{Ordering}
 use Rattle.std.specs.declared.cmp.Ordering.TheVariants.{Less, Equal, Greater}
 use Rattle.std.specs.Ordering.{match_ordering, ordering_reverse, eq_by_cmp, is_eq}
@@ -17,7 +17,10 @@ use Rattle.std.proofs.lemmas.Map.Entries.{lookup_head, lookup_tail}
 use Rattle.std.proofs.lemmas.Map.Keys.{IsDistinct-from_sorted}
 use Rattle.std.proofs.Math.Seq.{take-length}
 use Rattle.ix_types.specs.Row.{text_cmp}
-use Rattle.ix_model.specs.Units.{StoredUnit, Publication, Put, Gone, Units, changed, changed_name, units_at, units_after, units_after_last, unit_named, KeepsOtherNames, NamesRise}
+use Rattle.ix_model.specs.declared.publication.StoredUnit.{StoredUnit}
+use Rattle.ix_model.specs.declared.publication.Publication.{Publication}
+use Rattle.ix_model.specs.declared.publication.Publication.TheVariants.{Put, Gone}
+use Rattle.ix_model.specs.Units.{Units, changed, changed_name, units_at, units_after, units_after_last, unit_named, KeepsOtherNames, NamesRise}
 use Rattle.ix_model.proofs.Orders.{text_cmp_total, text_cmp-IsAntisymmetric}
 use Rattle.ix_model.proofs.SortedSet.{All-mapped}
 
@@ -123,6 +126,15 @@ none_rise = tt
 
 pub units_at-rise : (ps : List Publication) (n : ℕ) → NamesRise (units_at ps n)
 units_at-rise ps n = folded-rises (take n ps) [] none_rise
+
+take_past : {A : Type 0} (n : ℕ) (xs : List A) → length xs ≤ n → take n xs ≡ xs
+take_past zero [] h = refl
+take_past zero (x ∷ xs) h = absurd (omega arith)
+take_past (suc n) [] h = refl
+take_past (suc n) (x ∷ xs) h = ap (λ rest. x ∷ rest) (take_past n xs (omega arith))
+
+pub units_at-past : (ps : List Publication) (n : ℕ) → length ps ≤ n → units_at ps n ≡ units_after ps
+units_at-past ps n past = ap (fold changed []) (take_past n ps past ∙ sym (take-length ps))
 
 pub units_at-prefix : (ps more : List Publication) (n : ℕ) → n ≤ length ps → units_at (ps ++ more) n ≡ units_at ps n
 units_at-prefix ps more n below = ap (fold changed []) (take-append-le n ps more below)

@@ -1,5 +1,5 @@
 -- The sorted set of a list, for a total order in which only equal elements tie.
-use Rattle.std.proofs.Common.{◌≡◌, ℕ, zero, suc, ◌<◌, ◌⊎◌, inl, inr, List, [], ◌∷◌, length, fold, Contains, refl, sym, ap, ◌∙◌, subst, arith, slice_index_or}
+use Rattle.std.proofs.Common.{◌≡◌, ℕ, zero, suc, ◌<◌, ◌⊎◌, inl, inr, List, [], ◌∷◌, length, map, fold, Contains, refl, sym, ap, ◌∙◌, subst, arith, slice_index_or}
 use Rattle.std.specs.declared.cmp.Ordering.{Ordering}
 use Rattle.std.specs.declared.cmp.Ordering.TheVariants.{Less, Equal, Greater}
 use Rattle.std.specs.Ordering.{match_ordering, ordering_reverse}
@@ -176,3 +176,36 @@ module _ {X : Type 0} (cmp : X → X → Ordering) where
       λ c. Contains-from_Has (sorted_set cmp xs) x (folded-in same xs [] x (inr (Has-from_Contains xs x c))),
     );
   }
+
+  folded-All : (P : X → Type 0) (xs set : List X) → AllByRecursion P set → AllByRecursion P xs → AllByRecursion P (fold (λ set x. add_once cmp x set) set xs)
+  folded-All P [] set a b = a
+  folded-All P (x ∷ xs) set a b = folded-All P xs (add_once cmp x set) (add_once-All P x set b.0 a) b.1
+
+  -- what holds of a list's elements holds of its sorted set's
+  pub sorted_set-All : (P : X → Type 0) (xs : List X) → AllByRecursion P xs → AllByRecursion P (sorted_set cmp xs)
+  sorted_set-All P xs a = folded-All P xs [] tt a
+
+map-match : {X K : Type 0} (k : X → K) (o : Ordering) (a b c : List X) → map k (match_ordering o a b c) ≡ match_ordering o (map k a) (map k b) (map k c)
+map-match k Less a b c = refl
+map-match k Equal a b c = refl
+map-match k Greater a b c = refl
+
+module _ {X K : Type 0} (k : X → K) (key_cmp : K → K → Ordering) where
+  abbrev by_key : X → X → Ordering
+  by_key x y = key_cmp (k x) (k y)
+
+  map-add_once : (x : X) (ys : List X) → map k (add_once by_key x ys) ≡ add_once key_cmp (k x) (map k ys)
+  map-add_once x [] = refl
+  map-add_once x (y ∷ ys) =
+      map-match k (by_key x y) (x ∷ y ∷ ys) (y ∷ ys) (y ∷ add_once by_key x ys)
+      ∙ ap (λ (rest : List K). match_ordering (by_key x y) (k x ∷ k y ∷ map k ys) (k y ∷ map k ys) (k y ∷ rest)) (map-add_once x ys)
+
+  map-folded : (xs set : List X) → map k (fold (λ set x. add_once by_key x set) set xs) ≡ fold (λ set x. add_once key_cmp x set) (map k set) (map k xs)
+  map-folded [] set = refl
+  map-folded (x ∷ xs) set =
+      map-folded xs (add_once by_key x set)
+      ∙ ap (λ (keys : List K). fold (λ set x. add_once key_cmp x set) keys (map k xs)) (map-add_once x set)
+
+  -- the keys of a set that is sorted by them are the sorted set of the keys
+  pub map-sorted_set : (xs : List X) → map k (sorted_set by_key xs) ≡ sorted_set key_cmp (map k xs)
+  map-sorted_set xs = map-folded xs []

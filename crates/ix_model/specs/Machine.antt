@@ -5,7 +5,10 @@ use Rattle.ix_model.specs.declared.event.Call.{Call}
 use Rattle.ix_model.specs.declared.event.Call.TheVariants as calls
 use Rattle.ix_model.specs.declared.event.Outcome.{Outcome}
 use Rattle.ix_model.specs.declared.event.Outcome.TheVariants.{Synced, Clash, At}
-use Rattle.ix_model.specs.Units.{StoredUnit, Publication, Put, Units, units_at, unit_named}
+use Rattle.ix_model.specs.declared.publication.StoredUnit.{StoredUnit}
+use Rattle.ix_model.specs.declared.publication.Publication.{Publication}
+use Rattle.ix_model.specs.declared.publication.Publication.TheVariants.{Put}
+use Rattle.ix_model.specs.Units.{Units, units_at, unit_named}
 
 -- an import that a lane has opened, of the units at a mark
 pub record Import : Type 0 where

@@ -8,7 +8,8 @@ use Rattle.ix_record.specs.declared.value.Relation.{Relation}
 use Rattle.ix_record.specs.declared.value.Occurrence.{Occurrence}
 use Rattle.ix_record.specs.declared.value.RecordValue.{RecordValue}
 use Rattle.ix_unit.specs.declared.value.RecordDep.{RecordDep}
-use Rattle.ix_model.specs.Units.{StoredUnit, Units}
+use Rattle.ix_model.specs.declared.publication.StoredUnit.{StoredUnit}
+use Rattle.ix_model.specs.Units.{Units}
 
 -- a relation, with the USR of the symbol at its index
 abbrev pub relation_row : List Symbol → Relation → Option RelRow

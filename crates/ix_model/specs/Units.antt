@@ -5,19 +5,10 @@ use Rattle.std.specs.List.Sorted.{IsStrictlySortedBy}
 use Rattle.std.specs.Map.{lookup, keys_of, remove_entry}
 use Rattle.std.specs.BTreeMap.{insert_entry, is_at}
 use Rattle.ix_types.specs.Row.{text_cmp}
-use Rattle.ix_record.specs.declared.value.RecordValue.{RecordValue}
-use Rattle.ix_unit.specs.declared.value.UnitValue.{UnitValue}
+use Rattle.ix_model.specs.declared.publication.StoredUnit.{StoredUnit}
+use Rattle.ix_model.specs.declared.publication.Publication.{Publication}
+use Rattle.ix_model.specs.declared.publication.Publication.TheVariants.{Put, Gone}
 use Rattle.ix_model.specs.SortedSet.{sorted_set}
-
--- a unit, and the values of its records in the order of its record dependencies
-pub record StoredUnit : Type 0 where
-  pub unit : UnitValue
-  pub values : List RecordValue
-
--- one change of the visible units: a unit comes in the place of an earlier one of its name, or a name goes
-pub data Publication : Type 0 where
-  Put : List ℕ → StoredUnit → Publication
-  Gone : List ℕ → Publication
 
 -- a finite map from names to units: pairs that rise by name
 abbrev pub Units : Type 0

@@ -2,7 +2,7 @@
 use ix_types::FileName;
 
 /// A step, with the names that its line shows.
-#[derive(Clone, Copy, PartialEq, Eq)]
+#[derive(Clone, Copy, Debug, PartialEq, Eq)]
 pub enum Call {
     /// Makes a unit visible.
     Publish { unit: FileName },
@@ -15,7 +15,7 @@ pub enum Call {
 }
 
 /// How a step ended. A mark is a number of publications.
-#[derive(Clone, Copy, PartialEq, Eq)]
+#[derive(Clone, Copy, Debug, PartialEq, Eq)]
 pub enum Outcome {
     /// The change is made and lasts.
     Synced,
@@ -26,7 +26,7 @@ pub enum Outcome {
 }
 
 /// A step of a lane, and how it ended.
-#[derive(Clone, Copy, PartialEq, Eq)]
+#[derive(Clone, Copy, Debug, PartialEq, Eq)]
 pub struct Event {
     pub lane: u32,
     pub call: Call,

@@ -1,13 +1,15 @@
 //! Laws of the definitions, each the contract of a function that does nothing.
-ghost use Rattle.ix_model.specs.Answer.{IsAmongDefinitions, answer, definitions};
+ghost use Rattle.ix_model.specs.Answer.{IsAmongDefinitions, definitions, definitions_of};
 ghost use Rattle.ix_model.specs.Rows.{rows};
 ghost use Rattle.ix_model.specs.SortedSet.{IsSortedSetOf, sorted_set};
 ghost use Rattle.ix_types.specs.Row.{occurrence_cmp, text_cmp};
 ghost use Rattle.ix_types.specs.declared.row.OccRow.{OccRow};
-ghost use Rattle.ix_types.specs.declared.row.Query.TheVariants.{Def};
 ghost use Rattle.ix_types.specs.declared.row.Row.TheVariants.{Occ};
-ghost use Rattle.ix_model.specs.Units.{StoredUnit, Publication, Put, Gone, Units, changed_name, units_at, units_after, units_after_last, unit_named, KeepsOtherNames, NamesRise};
-ghost use Rattle.std.specs.Prelude.{◌≡◌, ◌≤◌, ◌++◌, ◌↔◌, ℕ, List, length, Some, None, Contains};
+ghost use Rattle.ix_model.specs.declared.publication.StoredUnit.{StoredUnit};
+ghost use Rattle.ix_model.specs.declared.publication.Publication.{Publication};
+ghost use Rattle.ix_model.specs.declared.publication.Publication.TheVariants.{Put, Gone};
+ghost use Rattle.ix_model.specs.Units.{Units, changed_name, units_at, units_after, units_after_last, unit_named, KeepsOtherNames, NamesRise};
+ghost use Rattle.std.specs.Prelude.{◌≡◌, ◌≤◌, ◌++◌, ◌↔◌, ℕ, List, [], length, Some, None, Contains};
 
 /// The rows of an answer rise strictly, and are those that were selected and no others; likewise the names that units need.
 pub fn answers_are_sorted_sets()
@@ -28,6 +30,8 @@ pub fn the_latest_publication_stands()
     ensures gone { (earlier : List Publication) (name : List ℕ) → unit_named name (units_after_last earlier (Gone name)) ≡ None }
     ensures others { (earlier : List Publication) (last : Publication) → KeepsOtherNames (changed_name last) (units_after earlier) (units_after_last earlier last) }
     ensures rises { (publications : List Publication) (n : ℕ) → NamesRise (units_at publications n) }
+    ensures none { (publications : List Publication) → units_at publications 0 ≡ [] }
+    ensures past { (publications : List Publication) (n : ℕ) → length publications ≤ n → units_at publications n ≡ units_after publications }
     ensures prefix { (earlier later : List Publication) (n : ℕ) → n ≤ length earlier → units_at (earlier ++ later) n ≡ units_at earlier n }
 {}
 
@@ -35,5 +39,5 @@ pub fn the_latest_publication_stands()
 /// Definition, and where there are none of these, those with the role Declaration.
 pub fn definitions_are_those()
     ensures selected { (usr : List ℕ) (all : List OccRow) (row : OccRow) → Contains (definitions usr all) row ↔ IsAmongDefinitions usr all row }
-    ensures answered { (usr : List ℕ) (units : Units) (row : OccRow) → Contains (answer (Def usr) units) (Occ row) ↔ IsAmongDefinitions usr (rows units) row }
+    ensures answered { (usr : List ℕ) (units : Units) (row : OccRow) → Contains (definitions_of usr units) (Occ row) ↔ IsAmongDefinitions usr (rows units) row }
 {}

@@ -1,3 +1,4 @@
 pub mod Enumerated
 pub mod OneLane
 pub mod OneTranscript
+pub mod StoredRecords

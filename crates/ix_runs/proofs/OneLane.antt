@@ -2,15 +2,17 @@
 use Rattle.std.proofs.Common.{◌≡◌, ℕ, zero, suc, ◌==◌, ◌≤◌, cond, true, false, List, [], ◌∷◌, ◌++◌, length, fold, map, filter, Option, Some, None, refl, ap, ap₂, sym, ◌∙◌, append_assoc, append-nil, length-append, arith, slice_set, bytes_eq, option_and_then, slice_get}
 use Rattle.std.proofs.lemmas.List.{take-append-le, map-append}
 use Rattle.std.proofs.lemmas.List.Elements.{filter-append}
-use Rattle.ix_types.specs.declared.row.Query.{Query}
 use Rattle.ix_script.specs.declared.plan.Step.{Step}
 use Rattle.ix_script.specs.declared.plan.Step.TheVariants.{Build, Poll, Refresh, Ask}
 use Rattle.ix_script.specs.declared.plan.UnitPlan.{UnitPlan}
 use Rattle.ix_model.specs.declared.event.Event.{Event}
 use Rattle.ix_model.specs.declared.event.Outcome.{Outcome}
 use Rattle.ix_model.specs.declared.event.Outcome.TheVariants.{Clash, At}
-use Rattle.ix_model.specs.Answer.{answer}
-use Rattle.ix_model.specs.Units.{StoredUnit, Publication, Put, Units, unit_named, changed}
+use Rattle.ix_model.specs.Answer.{definitions_of}
+use Rattle.ix_model.specs.declared.publication.StoredUnit.{StoredUnit}
+use Rattle.ix_model.specs.declared.publication.Publication.{Publication}
+use Rattle.ix_model.specs.declared.publication.Publication.TheVariants.{Put}
+use Rattle.ix_model.specs.Units.{Units, unit_named, changed}
 use Rattle.ix_model.specs.Machine.{State, Given, Publish, Scan, Install, Adopt, Stepped, call_of, step, publish, put, visible, empty_opening}
 use Rattle.ix_runs.specs.declared.transcript.AskResult.TheVariants.{Rows}
 use Rattle.ix_runs.specs.declared.transcript.Answered.{Answered}
@@ -32,14 +34,14 @@ IsMade-append : (publications later : List Publication) (held : Option ℕ) → 
 IsMade-append publications later None h = tt
 IsMade-append publications later (Some mark) h = omega (arith, length-append publications later)
 
-abbrev asked_at : Query → ℕ → Units → Answered
-asked_at query mark units = record { mark = Some mark; result = Rows (answer query units) }
+abbrev asked_at : List ℕ → ℕ → Units → Answered
+asked_at usr mark units = record { mark = Some mark; result = Rows (definitions_of usr units) }
 
 -- an answer at a mark that is made stays the same
-asked-append : (publications later : List Publication) (query : Query) (held : Option ℕ) → IsMade publications held → asked (publications ++ later) query held ≡ asked publications query held
-asked-append publications later query None h = refl
-asked-append publications later query (Some mark) h =
-    ap (λ (ps : List Publication). asked_at query mark (fold changed [] ps)) (take-append-le mark publications later h)
+asked-append : (publications later : List Publication) (usr : List ℕ) (held : Option ℕ) → IsMade publications held → asked (publications ++ later) usr held ≡ asked publications usr held
+asked-append publications later usr None h = refl
+asked-append publications later usr (Some mark) h =
+    ap (λ (ps : List Publication). asked_at usr mark (fold changed [] ps)) (take-append-le mark publications later h)
 
 -- what a publication leaves as it was
 record IsKept (s t : State) : Type 0 where
@@ -169,8 +171,8 @@ module _ (name_of : List ℕ → List ℕ) (all : List Step) where
   held_is : (run : Run) (left : List Step) (told : List Answered) (at : IsAt name_of all run left told) → held_by_first run ≡ at.held
   held_is run left told at = ap (λ (hs : List (Option ℕ)). option_and_then (λ held. held) (slice_get hs 0)) at.holds
 
-  at_ask : (run : Run) (query : Query) (left : List Step) (told : List Answered) → IsAt name_of all run (Ask query ∷ left) told → IsAt name_of all run left (told ++ (asked run.state.publications query (held_by_first run) ∷ []))
-  at_ask run query left told at = record {
+  at_ask : (run : Run) (usr : List ℕ) (left : List Step) (told : List Answered) → IsAt name_of all run (Ask usr ∷ left) told → IsAt name_of all run left (told ++ (asked run.state.publications usr (held_by_first run) ∷ []))
+  at_ask run usr left told at = record {
     held = at.held;
     holds = at.holds;
     held_made = at.held_made;
@@ -179,8 +181,8 @@ module _ (name_of : List ℕ → List ℕ) (all : List Step) where
     answers = λ later more.
         at.answers later more
         ∙ (ap (λ (a : Answered). told ++ (a ∷ answers_of (run.state.publications ++ later) left more at.held))
-        (asked-append run.state.publications later query at.held at.held_made ∙ sym (ap (asked run.state.publications query) (held_is run (Ask query ∷ left) told at)))
-        ∙ sym (append_assoc told (asked run.state.publications query (held_by_first run) ∷ []) (answers_of (run.state.publications ++ later) left more at.held)));
+        (asked-append run.state.publications later usr at.held at.held_made ∙ sym (ap (asked run.state.publications usr) (held_is run (Ask usr ∷ left) told at)))
+        ∙ sym (append_assoc told (asked run.state.publications usr (held_by_first run) ∷ []) (answers_of (run.state.publications ++ later) left more at.held)));
   }
 
   -- what the lane's asks answer in the end
@@ -191,9 +193,9 @@ module _ (name_of : List ℕ → List ℕ) (all : List Step) where
   answers_in_the_end (Build plan ∷ left) run told at = answers_in_the_end left (after_step name_of run (Build plan)) told (at_build run plan left told at)
   answers_in_the_end (Poll ∷ left) run told at = answers_in_the_end left (after_step name_of run Poll) told (at_poll run left told at)
   answers_in_the_end (Refresh ∷ left) run told at = answers_in_the_end left (after_step name_of run Refresh) told (at_refresh run left told at)
-  answers_in_the_end (Ask query ∷ left) run told at =
-      answers_in_the_end left run (told ++ (asked run.state.publications query (held_by_first run) ∷ [])) (at_ask run query left told at)
-      ∙ append_assoc told (asked run.state.publications query (held_by_first run) ∷ []) (asked_from name_of run left)
+  answers_in_the_end (Ask usr ∷ left) run told at =
+      answers_in_the_end left run (told ++ (asked run.state.publications usr (held_by_first run) ∷ [])) (at_ask run usr left told at)
+      ∙ append_assoc told (asked run.state.publications usr (held_by_first run) ∷ []) (asked_from name_of run left)
 
   abbrev lanes : List (List Step)
   lanes = all ∷ []
@@ -224,7 +226,7 @@ module _ (name_of : List ℕ → List ℕ) (all : List Step) where
   with_calls n (Build plan ∷ left) = suc (with_calls n left)
   with_calls n (Poll ∷ left) = suc (suc (with_calls n left))
   with_calls n (Refresh ∷ left) = suc (with_calls n left)
-  with_calls n (Ask query ∷ left) = with_calls n left
+  with_calls n (Ask usr ∷ left) = with_calls n left
 
   goes : (left : List Step) (run : Run) (told : List Answered) → IsAt name_of all run left told
       → run_from name_of lanes run (turns_from name_of lanes (with_calls 0 left) run []) ≡ Some (after_steps name_of run left)
@@ -239,8 +241,8 @@ module _ (name_of : List ℕ → List ℕ) (all : List Step) where
   goes (Refresh ∷ left) run told at =
       one_call run Adopt _ (with_calls 0 left) (next_is run (Refresh ∷ left) told at) refl
       ∙ goes left (after_step name_of run Refresh) told (at_refresh run left told at)
-  goes (Ask query ∷ left) run told at =
-      goes left run (told ++ (asked run.state.publications query (held_by_first run) ∷ [])) (at_ask run query left told at)
+  goes (Ask usr ∷ left) run told at =
+      goes left run (told ++ (asked run.state.publications usr (held_by_first run) ∷ [])) (at_ask run usr left told at)
 
   -- as many events as calls
   with_calls-suc : (n : ℕ) (left : List Step) → with_calls (suc n) left ≡ suc (with_calls n left)
@@ -248,7 +250,7 @@ module _ (name_of : List ℕ → List ℕ) (all : List Step) where
   with_calls-suc n (Build plan ∷ left) = ap suc (with_calls-suc n left)
   with_calls-suc n (Poll ∷ left) = ap (λ (m : ℕ). suc (suc m)) (with_calls-suc n left)
   with_calls-suc n (Refresh ∷ left) = ap suc (with_calls-suc n left)
-  with_calls-suc n (Ask query ∷ left) = with_calls-suc n left
+  with_calls-suc n (Ask usr ∷ left) = with_calls-suc n left
 
   one_more : (events : List Event) (e : Event) → length (events ++ (e ∷ [])) ≡ suc (length events)
   one_more events e = omega (arith, length-append events (e ∷ []))
@@ -267,7 +269,7 @@ module _ (name_of : List ℕ → List ℕ) (all : List Step) where
       counted left (after_step name_of run Refresh)
       ∙ (ap (λ (n : ℕ). with_calls n left) (one_more run.events _)
       ∙ with_calls-suc (length run.events) left)
-  counted (Ask query ∷ left) run = counted left run
+  counted (Ask usr ∷ left) run = counted left run
 
   at_first : IsAt name_of all (before_lane name_of all) all []
   at_first = record { held = None; holds = refl; held_made = tt; current_made = omega arith; calls = λ more. refl; answers = λ later more. refl }

@@ -2,11 +2,11 @@
 use Rattle.std.specs.Prelude.{ℕ, List, [], ◌∷◌, Option, Some, None}
 use Rattle.ix_script.specs.declared.plan.Step.{Step}
 use Rattle.ix_script.specs.declared.plan.Step.TheVariants.{Build, Poll, Refresh, Ask}
-use Rattle.ix_types.specs.declared.row.Query.{Query}
 use Rattle.ix_model.specs.declared.event.Outcome.{Outcome}
 use Rattle.ix_model.specs.declared.event.Outcome.TheVariants.{Synced, Clash, At}
-use Rattle.ix_model.specs.Units.{Publication, units_at}
-use Rattle.ix_model.specs.Answer.{answer}
+use Rattle.ix_model.specs.declared.publication.Publication.{Publication}
+use Rattle.ix_model.specs.Units.{units_at}
+use Rattle.ix_model.specs.Answer.{definitions_of}
 use Rattle.ix_model.specs.Machine.{Given, Publish, Scan, Install, Adopt}
 use Rattle.ix_runs.specs.declared.transcript.AskResult.TheVariants.{Rows, NoneHeld}
 use Rattle.ix_runs.specs.declared.transcript.Answered.{Answered}
@@ -22,12 +22,12 @@ next_call name_of (Poll ∷ steps) (scanned ∷ []) = Some Install
 next_call name_of (Poll ∷ steps) (scanned ∷ installed ∷ outcomes) = next_call name_of steps outcomes
 next_call name_of (Refresh ∷ steps) [] = Some Adopt
 next_call name_of (Refresh ∷ steps) (adopted ∷ outcomes) = next_call name_of steps outcomes
-next_call name_of (Ask query ∷ steps) outcomes = next_call name_of steps outcomes
+next_call name_of (Ask usr ∷ steps) outcomes = next_call name_of steps outcomes
 
--- an ask of the version that is held: its answer over the units at that mark
-abbrev pub asked : List Publication → Query → Option ℕ → Answered
-asked publications query None = record { mark = None; result = NoneHeld }
-asked publications query (Some mark) = record { mark = Some mark; result = Rows (answer query (units_at publications mark)) }
+-- an ask of the version that is held: where the USR is defined in the units at that mark
+abbrev pub asked : List Publication → List ℕ → Option ℕ → Answered
+asked publications usr None = record { mark = None; result = NoneHeld }
+asked publications usr (Some mark) = record { mark = Some mark; result = Rows (definitions_of usr (units_at publications mark)) }
 
 -- what is held after an event that took up a version
 abbrev pub held_after : Outcome → Option ℕ → Option ℕ
@@ -45,4 +45,4 @@ answers_of publications (Poll ∷ steps) (scanned ∷ []) held = []
 answers_of publications (Poll ∷ steps) (scanned ∷ installed ∷ outcomes) held = answers_of publications steps outcomes (held_after installed held)
 answers_of publications (Refresh ∷ steps) [] held = []
 answers_of publications (Refresh ∷ steps) (adopted ∷ outcomes) held = answers_of publications steps outcomes (held_after adopted held)
-answers_of publications (Ask query ∷ steps) outcomes held = asked publications query held ∷ answers_of publications steps outcomes held
+answers_of publications (Ask usr ∷ steps) outcomes held = asked publications usr held ∷ answers_of publications steps outcomes held

@@ -36,7 +36,7 @@ module _ (name_of : List ℕ → List ℕ) where
   after_step run (Build plan) = after_call run (Publish (name_of plan.output) (stored_of name_of plan))
   after_step run Poll = after_call (after_call run Scan) Install
   after_step run Refresh = after_call run Adopt
-  after_step run (Ask query) = run
+  after_step run (Ask usr) = run
 
   -- the run after these steps
   abbrev pub after_steps : Run → List Step → Run
@@ -48,7 +48,7 @@ module _ (name_of : List ℕ → List ℕ) where
   asked_from run (Build plan ∷ steps) = asked_from (after_step run (Build plan)) steps
   asked_from run (Poll ∷ steps) = asked_from (after_step run Poll) steps
   asked_from run (Refresh ∷ steps) = asked_from (after_step run Refresh) steps
-  asked_from run (Ask query ∷ steps) = asked run.state.publications query (held_by_first run) ∷ asked_from run steps
+  asked_from run (Ask usr ∷ steps) = asked run.state.publications usr (held_by_first run) ∷ asked_from run steps
 
   -- the run of one lane before its first step
   abbrev pub before_lane : List Step → Run

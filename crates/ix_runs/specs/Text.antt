@@ -6,7 +6,8 @@ use Rattle.ix_types.specs.Codes.{Table, kinds, langs, roles, props, name_of_code
 use Rattle.ix_types.specs.declared.row.RelRow.{RelRow}
 use Rattle.ix_types.specs.declared.row.OccRow.{OccRow}
 use Rattle.ix_types.specs.declared.row.Row.{Row}
-use Rattle.ix_types.specs.declared.row.Row.TheVariants.{Occ}
+use Rattle.ix_types.specs.declared.row.EdgeRow.{EdgeRow}
+use Rattle.ix_types.specs.declared.row.Row.TheVariants.{Occ, Path, Unit, Edge}
 use Rattle.ix_model.specs.declared.event.Call.{Call}
 use Rattle.ix_model.specs.declared.event.Call.TheVariants.{Publish, Scan, Install, Adopt}
 use Rattle.ix_model.specs.declared.event.Outcome.{Outcome}
@@ -76,8 +77,16 @@ occurrence_line row =
     ++ tab ++ role_names row.roles ++ tab ++ word_of kinds row.kind ++ tab ++ word_of langs row.lang
     ++ tab ++ props_words row.props ++ tab ++ row.usr ++ tab ++ row.name ++ flat_map relation_field row.relations ++ newline
 
+abbrev pub edge_line : EdgeRow → List ℕ
+edge_line edge =
+    codes "edge" ++ tab ++ decimal edge.depth ++ tab ++ edge.from ++ tab ++ edge.to
+    ++ tab ++ edge.path ++ tab ++ decimal edge.line ++ tab ++ decimal edge.column ++ newline
+
 abbrev pub row_line : Row → List ℕ
 row_line (Occ row) = occurrence_line row
+row_line (Path path) = codes "path" ++ tab ++ path ++ newline
+row_line (Unit name) = codes "unit" ++ tab ++ name ++ newline
+row_line (Edge edge) = edge_line edge
 
 -- ---- answers
 

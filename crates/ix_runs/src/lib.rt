@@ -2,6 +2,9 @@
 #![tactic(auto)]
 
 mod append;
+mod job;
+#[cfg(test)]
+mod job_tests;
 pub mod laws;
 mod print;
 mod row_text;
@@ -10,5 +13,6 @@ mod tests;
 mod transcript;
 mod words;
 
+pub use job::{Dependency, record_value, unit_of};
 pub use print::text_of;
 pub use transcript::{Answered, AskResult, Transcript};

@@ -1,7 +1,7 @@
 //! Worked transcripts, and texts by the format, each written out by hand.
 use super::*;
 use ix_model::{Call, Event, Outcome};
-use ix_types::{FileName, Kind, Lang, OccRow, Props, RelRow, Roles, Row, Seq, Text};
+use ix_types::{EdgeRow, FileName, Kind, Lang, OccRow, Props, RelRow, Roles, Row, Seq, Text};
 use std::alloc::Global;
 use std::process::Abort;
 use std::test::Fail;
@@ -100,9 +100,9 @@ fn small_answer(alloc: Global, mark: u64, line: u32) -> Result<Answered, Fail> {
         texts: [b"a.swift", b"s:1MA", b"A"],
         line,
         column: 8,
-        roles: 2,
-        kind: 6,
-        lang: 100,
+        roles: Roles::DEFINITION,
+        kind: Kind::STRUCT.bits(),
+        lang: Lang::SWIFT.bits(),
         props: 0,
         relations: &[],
     };
@@ -300,6 +300,38 @@ fn rows_have_words_and_relations(rt: HostRuntime) -> Result<(), Fail> {
         "ask 0 0 at 18446744073709551615 rows 2
 row\tCircle.swift\t2\t17\tDefinition+ChildOf+OverrideOf\tInstanceMethod\tSwift\t-\ts:3App6CircleC4areaSiyF\tarea()\tOverrideOf=s:3App5ShapeC4areaSiyF\tChildOf=s:3App6CircleC
 row\tg/h.h\t4294967295\t4294967295\tDeclaration+Definition+Reference+Read+Write+Call+Dynamic+AddressOf+Implicit+ChildOf+BaseOf+OverrideOf+ReceivedBy+CalledBy+ExtendedBy+AccessorOf+ContainedBy+IBTypeOf+SpecializationOf\tCommentTag\tC++\tGeneric+TemplatePartialSpecialization+TemplateSpecialization+UnitTest+IBAnnotated+IBOutletCollection+GKInspectable+Local+ProtocolInterface\tc:t\t\tCalledBy+ContainedBy=c:f
+end 0
+",
+    )
+}
+
+#[test]
+fn rows_of_each_kind_have_their_line(rt: HostRuntime) -> Result<(), Fail> {
+    let alloc = rt.alloc();
+    let mut rows = Vec::new(alloc);
+    rows.push(Row::Path(Text::read(alloc, b"Circle.swift")?))?;
+    rows.push(Row::Unit(FileName::read(ABC).ok_or("a name")?))?;
+    rows.push(Row::Edge(EdgeRow {
+        depth: 1,
+        from: Text::read(alloc, b"s:3App6CircleC")?,
+        to: Text::read(alloc, b"s:3App5ShapeC")?,
+        path: Text::read(alloc, b"Circle.swift")?,
+        line: 2,
+        column: 15,
+    }))?;
+    let answered = Answered {
+        mark: Some(3),
+        result: AskResult::Rows(Seq::of(rows)),
+    };
+    let asked = one_lane(alloc, &[], Vec::from_array(alloc, [answered])?)?;
+    shows(
+        &rt,
+        alloc,
+        asked,
+        "ask 0 0 at 3 rows 3
+path\tCircle.swift
+unit\tba7816bf8f01cfea414140de5dae2223b00361a396177a9cb410ff61f20015ad
+edge\t1\ts:3App6CircleC\ts:3App5ShapeC\tCircle.swift\t2\t15
 end 0
 ",
     )

@@ -6,13 +6,16 @@ use Rattle.std.proofs.lemmas.Option.{IfSome_then}
 use Rattle.std.proofs.lemmas.Slice.Eq.{bytes_eq-Decides}
 use Rattle.serde_json.specs.Data.{unsigned, negative, float, Data, null, boolean, number, string, array, object, Items, no_items, item}
 use Rattle.serde_json.specs.Find.{get}
+use Rattle.ix_types.specs.Codes.{struct_code}
+use Rattle.ix_types.specs.declared.code.TheConstants.Roles.{DEFINITION}
+use Rattle.ix_script.specs.declared.plan.TheConstants.{MAX_STEPS}
 use Rattle.ix_types.specs.Text.{IsText, IsTextOrEmpty, refusal, refusal_or_empty}
 use Rattle.ix_script.specs.declared.plan.Step.{Step}
 use Rattle.ix_script.specs.declared.plan.Step.TheVariants.{Build, Poll, Refresh}
 use Rattle.ix_script.specs.declared.plan.OccurrencePlan.{OccurrencePlan}
 use Rattle.ix_script.specs.Json.{given, has_only, each_item, items_count, array_of, single_of, field, text_of, text_or_empty_of, is_word, whole_of}
 use Rattle.ix_script.specs.Reading.{only_one, symbol_of, roles_of, occurrence_of, only_symbol_of, only_occurrence_of, record_of, unit_of, build_of, ask_of, plain_step, step_by_word, step_of, lane_of, first_script}
-use Rattle.ix_script.specs.FirstForm.{IsPlace, IsFirstSymbol, IsFirstOccurrence, HasFirstRecord, IsFirstUnit, IsFirstStep, IsFirstLane, IsFirstForm}
+use Rattle.ix_script.specs.FirstForm.{IsCoordinate, IsFirstSymbol, IsFirstOccurrence, HasFirstRecord, IsFirstUnit, IsFirstStep, IsFirstLane, IsFirstForm}
 use Rattle.ix_script.proofs.Items.{one_item}
 use Rattle.ix_script.specs.declared.plan.RecordPlan.{RecordPlan}
 use Rattle.ix_script.specs.Value.{ScriptValue}
@@ -57,20 +60,20 @@ reads_text_or_empty (string s) = tested IsTextOrEmpty (is_none (refusal_or_empty
 reads_text_or_empty (array ds) = tt
 reads_text_or_empty (object ms) = tt
 
-in_bounds : (n : ℕ) → (leb 1 n && leb n 4294967295) ≡ true → IsPlace n
+in_bounds : (n : ℕ) → (leb 1 n && leb n 4294967295) ≡ true → IsCoordinate n
 in_bounds n h =
     let parts = and_parts (leb 1 n) (leb n 4294967295) h in
     (leb-true 1 n parts.0, leb-true n 4294967295 parts.1)
 
-reads_place : (d : Data) → IfSome (whole_of 1 d) IsPlace
-reads_place null = tt
-reads_place (boolean b) = tt
-reads_place (number (unsigned n)) = tested IsPlace (leb 1 n && leb n 4294967295) (Some n) (in_bounds n)
-reads_place (number (negative z)) = tt
-reads_place (number (float x)) = tt
-reads_place (string s) = tt
-reads_place (array ds) = tt
-reads_place (object ms) = tt
+reads_coordinate : (d : Data) → IfSome (whole_of 1 d) IsCoordinate
+reads_coordinate null = tt
+reads_coordinate (boolean b) = tt
+reads_coordinate (number (unsigned n)) = tested IsCoordinate (leb 1 n && leb n 4294967295) (Some n) (in_bounds n)
+reads_coordinate (number (negative z)) = tt
+reads_coordinate (number (float x)) = tt
+reads_coordinate (string s) = tt
+reads_coordinate (array ds) = tt
+reads_coordinate (object ms) = tt
 
 abbrev symbol_keys : List (List ℕ)
 symbol_keys = codes "usr" ∷ codes "name" ∷ codes "kind" ∷ []
@@ -78,13 +81,13 @@ symbol_keys = codes "usr" ∷ codes "name" ∷ codes "kind" ∷ []
 first_symbol : (d : Data) → IfSome (symbol_of d) IsFirstSymbol
 unfolding symbol_of
 first_symbol d =
-    let kind_of : Data → Option ℕ = λ k. given (is_word (codes "Struct") k) (Some 6) in
-    let IsStruct : ℕ → Type 0 = λ kind. kind ≡ 6 in
+    let kind_of : Data → Option ℕ = λ k. given (is_word (codes "Struct") k) (Some struct_code) in
+    let IsStruct : ℕ → Type 0 = λ kind. kind ≡ struct_code in
     tested IsFirstSymbol (has_only symbol_keys d) _ (λ _.
     bound IsText IsFirstSymbol (field (codes "usr") text_of d) _ (in_field IsText (codes "usr") text_of d reads_text) (λ usr usr_is.
     bound IsTextOrEmpty IsFirstSymbol (field (codes "name") text_or_empty_of d) _ (in_field IsTextOrEmpty (codes "name") text_or_empty_of d reads_text_or_empty) (λ name name_is.
-    bound IsStruct IsFirstSymbol (field (codes "kind") kind_of d) _ (in_field IsStruct (codes "kind") kind_of d (λ k. tested IsStruct (is_word (codes "Struct") k) (Some 6) (λ _. refl))) (λ kind kind_is.
-    record { usr = usr_is; name = name_is; kind = kind_is; lang = refl; props = refl }))))
+    bound IsStruct IsFirstSymbol (field (codes "kind") kind_of d) _ (in_field IsStruct (codes "kind") kind_of d (λ k. tested IsStruct (is_word (codes "Struct") k) (Some struct_code) (λ _. refl))) (λ kind kind_is.
+    record { usr = usr_is; name = name_is; kind = kind_is; lang = refl; props = refl; codegen = refl }))))
 
 -- the one item of an array
 in_single : {A : Type 0} (P : A → Type 0) (f : Data → Option A) (list : Data) → ((e : Data) → IfSome (f e) P) → IfSome (option_and_then only_one (array_of 1 f list)) P
@@ -92,12 +95,12 @@ in_single P f list k =
     subst (λ r. IfSome r P) (sym (one_item f list)) (bound (λ _. Unit {0}) P (single_of list) f (anything (single_of list)) (λ e _. k e))
 
 abbrev IsDefinition : ℕ → Type 0
-IsDefinition roles = roles ≡ 2
+IsDefinition roles = roles ≡ DEFINITION
 
 first_roles : (list : Data) → IfSome (roles_of list) IsDefinition
 unfolding roles_of
 first_roles list =
-    in_single IsDefinition (λ word. given (is_word (codes "Definition") word) (Some 2)) list (λ e. tested IsDefinition (is_word (codes "Definition") e) (Some 2) (λ _. refl))
+    in_single IsDefinition (λ word. given (is_word (codes "Definition") word) (Some DEFINITION)) list (λ e. tested IsDefinition (is_word (codes "Definition") e) (Some DEFINITION) (λ _. refl))
 
 first_occurrence : (symbol : List ℕ) (d : Data) → IfSome (occurrence_of symbol d) (IsFirstOccurrence symbol)
 unfolding occurrence_of
@@ -105,8 +108,8 @@ first_occurrence symbol d =
     let Is : OccurrencePlan → Type 0 = IsFirstOccurrence symbol in
     tested Is (has_only (codes "usr" ∷ codes "line" ∷ codes "col" ∷ codes "roles" ∷ []) d) _ (λ _.
     bound IsText Is (field (codes "usr") text_of d) _ (in_field IsText (codes "usr") text_of d reads_text) (λ usr usr_is.
-    bound IsPlace Is (field (codes "line") (whole_of 1) d) _ (in_field IsPlace (codes "line") (whole_of 1) d reads_place) (λ line line_is.
-    bound IsPlace Is (field (codes "col") (whole_of 1) d) _ (in_field IsPlace (codes "col") (whole_of 1) d reads_place) (λ col col_is.
+    bound IsCoordinate Is (field (codes "line") (whole_of 1) d) _ (in_field IsCoordinate (codes "line") (whole_of 1) d reads_coordinate) (λ line line_is.
+    bound IsCoordinate Is (field (codes "col") (whole_of 1) d) _ (in_field IsCoordinate (codes "col") (whole_of 1) d reads_coordinate) (λ col col_is.
     bound IsDefinition Is (field (codes "roles") roles_of d) _ (in_field IsDefinition (codes "roles") roles_of d first_roles) (λ roles roles_is.
     tested Is (bytes_eq usr symbol) _ (λ same.
     record { usr = (bytes_eq-Decides usr symbol).0 same; line = line_is; col = col_is; roles = roles_is; relations = refl }))))))
@@ -126,7 +129,7 @@ first_record d =
     bound IsText HasFirstRecord (field (codes "path") text_of d) _ (in_field IsText (codes "path") text_of d reads_text) (λ path path_is.
     bound IsFirstSymbol HasFirstRecord (field (codes "symbols") only_symbol_of d) _ (in_field IsFirstSymbol (codes "symbols") only_symbol_of d first_only_symbol) (λ symbol symbol_is.
     bound (IsFirstOccurrence symbol.usr) HasFirstRecord (field (codes "occurrences") (only_occurrence_of symbol.usr) d) _ (in_field (IsFirstOccurrence symbol.usr) (codes "occurrences") (only_occurrence_of symbol.usr) d (first_only_occurrence symbol.usr)) (λ occurrence occurrence_is.
-    (symbol, occurrence, record { path = path_is; system = refl; symbols = refl; symbol_is = symbol_is; occurrences = refl; occurrence_is = occurrence_is })))))
+    (symbol, occurrence, record { format = refl; path = path_is; system = refl; symbols = refl; symbol_is = symbol_is; occurrences = refl; occurrence_is = occurrence_is })))))
 
 abbrev AreItems : {A : Type 0} → (A → Type 0) → ℕ → List A → Type 0
 AreItems P count xs = (length xs ≡ count) × AllByRecursion P xs
@@ -200,7 +203,7 @@ first_step d =
 first_lane : (d : Data) → IfSome (lane_of d) IsFirstLane
 unfolding lane_of
 first_lane d =
-    IfSome_then (array_of 4096 step_of d) (few IsFirstStep 4096 step_of first_step d) (λ steps are. record { short = are.0; steps = are.1 })
+    IfSome_then (array_of MAX_STEPS step_of d) (few IsFirstStep MAX_STEPS step_of first_step d) (λ steps are. record { short = are.0; steps = are.1 })
 
 first_form : (d : Data) → IfSome (first_script d) IsFirstForm
 unfolding first_script

@@ -1,7 +1,10 @@
 -- What the scripts of the first form have in common.
 use Rattle.std.specs.Prelude.{◌≡◌, ℕ, ◌≤◌, List, [], ◌∷◌, length, false}
 use Rattle.std.specs.List.{AllByRecursion}
-use Rattle.ix_types.specs.declared.row.Query.TheVariants.{Def}
+use Rattle.ix_types.specs.Codes.{struct_code, swift_code}
+use Rattle.ix_types.specs.declared.code.TheConstants.Roles.{DEFINITION}
+use Rattle.ix_types.specs.declared.format.Format.TheVariants.{One}
+use Rattle.ix_script.specs.declared.plan.TheConstants.{MAX_STEPS}
 use Rattle.ix_types.specs.Text.{IsText, IsTextOrEmpty}
 use Rattle.ix_script.specs.declared.plan.Step.{Step}
 use Rattle.ix_script.specs.declared.plan.Step.TheVariants.{Build, Poll, Refresh, Ask}
@@ -11,28 +14,30 @@ use Rattle.ix_script.specs.declared.plan.SymbolPlan.{SymbolPlan}
 use Rattle.ix_script.specs.declared.plan.OccurrencePlan.{OccurrencePlan}
 use Rattle.ix_script.specs.Value.{ScriptValue}
 
--- a number of a line or a column
-abbrev pub IsPlace : ℕ → Type 0
-IsPlace n = (1 ≤ n) × (n ≤ 4294967295)
+-- a line or a column
+abbrev pub IsCoordinate : ℕ → Type 0
+IsCoordinate n = (1 ≤ n) × (n ≤ 4294967295)
 
--- a Swift struct with no property
+-- a Swift struct with no property and no code generation name
 pub record IsFirstSymbol (plan : SymbolPlan) : Type 0 where
   pub usr : IsText plan.usr
   pub name : IsTextOrEmpty plan.name
-  pub kind : plan.kind ≡ 6
-  pub lang : plan.lang ≡ 100
+  pub kind : plan.kind ≡ struct_code
+  pub lang : plan.lang ≡ swift_code
   pub props : plan.props ≡ 0
+  pub codegen : plan.codegen ≡ []
 
 -- a definition of the symbol that has no relation
 pub record IsFirstOccurrence (symbol : List ℕ) (plan : OccurrencePlan) : Type 0 where
   pub usr : plan.usr ≡ symbol
-  pub line : IsPlace plan.line
-  pub col : IsPlace plan.col
-  pub roles : plan.roles ≡ 2
+  pub line : IsCoordinate plan.line
+  pub col : IsCoordinate plan.col
+  pub roles : plan.roles ≡ DEFINITION
   pub relations : plan.relations ≡ []
 
--- one symbol, and one occurrence of it
+-- one symbol, and one occurrence of it, in the first format
 pub record IsFirstRecord (plan : RecordPlan) (symbol : SymbolPlan) (occurrence : OccurrencePlan) : Type 0 where
+  pub format : plan.format ≡ One
   pub path : IsText plan.path
   pub system : plan.system ≡ false
   pub symbols : plan.symbols ≡ symbol ∷ []
@@ -59,11 +64,11 @@ abbrev pub IsFirstStep : Step → Type 0
 IsFirstStep (Build plan) = IsFirstUnit plan
 IsFirstStep Poll = Unit {0}
 IsFirstStep Refresh = Unit {0}
-IsFirstStep (Ask (Def usr)) = IsText usr
+IsFirstStep (Ask usr) = IsText usr
 
--- at most 4,096 steps, all of them of the first form
+-- at most so many steps, all of them of the first form
 pub record IsFirstLane (lane : List Step) : Type 0 where
-  pub short : length lane ≤ 4096
+  pub short : length lane ≤ MAX_STEPS
   pub steps : AllByRecursion IsFirstStep lane
 
 -- at most one lane, and no order

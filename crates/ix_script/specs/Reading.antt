@@ -2,7 +2,10 @@
 use Rattle.std.specs.Prelude.{ℕ, ◌==◌, if◌then◌else◌, List, [], ◌∷◌, codes, true, false, Option, Some, None, Result, Ok, Err, option_and_then, option_map}
 use Rattle.std.specs.Str.{bytes_eq}
 use Rattle.serde_json.specs.Data.{Data}
-use Rattle.ix_types.specs.declared.row.Query.TheVariants.{Def}
+use Rattle.ix_types.specs.Codes.{struct_code, swift_code}
+use Rattle.ix_types.specs.declared.code.TheConstants.Roles.{DEFINITION}
+use Rattle.ix_types.specs.declared.format.Format.TheVariants.{One}
+use Rattle.ix_script.specs.declared.plan.TheConstants.{MAX_STEPS}
 use Rattle.ix_script.specs.declared.plan.Step.{Step}
 use Rattle.ix_script.specs.declared.plan.Step.TheVariants.{Build, Poll, Refresh, Ask}
 use Rattle.ix_script.specs.declared.plan.UnitPlan.{UnitPlan}
@@ -18,16 +21,6 @@ infixl 10 ◌>>=◌
 abbrev pub ◌>>=◌ : {A B : Type 0} → Option A → (A → Option B) → Option B
 o >>= f = option_and_then f o
 
--- the code of Struct, of Swift, and the bit of Definition
-abbrev struct_code : ℕ
-struct_code = 6
-
-abbrev swift_code : ℕ
-swift_code = 100
-
-abbrev definition_bit : ℕ
-definition_bit = 2
-
 -- the one item of a list
 abbrev pub only_one : {A : Type 0} → List A → Option A
 only_one [] = None
@@ -40,11 +33,11 @@ symbol_of d = given (has_only (codes "usr" ∷ codes "name" ∷ codes "kind" ∷
   usr ← field (codes "usr") text_of d
   name ← field (codes "name") text_or_empty_of d
   kind ← field (codes "kind") (λ k. given (is_word (codes "Struct") k) (Some struct_code)) d
-  Some (record { usr = usr; name = name; kind = kind; lang = swift_code; props = 0 })
+  Some (record { usr = usr; name = name; kind = kind; lang = swift_code; props = 0; codegen = [] })
 
 -- the one word `Definition`
 unfoldable pub roles_of : Data → Option ℕ
-roles_of list = array_of 1 (λ word. given (is_word (codes "Definition") word) (Some definition_bit)) list >>= only_one
+roles_of list = array_of 1 (λ word. given (is_word (codes "Definition") word) (Some DEFINITION)) list >>= only_one
 
 -- exactly `usr`, `line`, `col` and `roles`, the roles being the one word `Definition`, and the USR the symbol's
 unfoldable pub occurrence_of : List ℕ → Data → Option OccurrencePlan
@@ -68,7 +61,7 @@ record_of d = given (has_only (codes "path" ∷ codes "symbols" ∷ codes "occur
   path ← field (codes "path") text_of d
   symbol ← field (codes "symbols") only_symbol_of d
   occurrence ← field (codes "occurrences") (only_occurrence_of symbol.usr) d
-  Some (record { path = path; system = false; symbols = symbol ∷ []; occurrences = occurrence ∷ [] })
+  Some (record { format = One; path = path; system = false; symbols = symbol ∷ []; occurrences = occurrence ∷ [] })
 
 -- exactly `output`, `main`, `module` and `records`, with at most one record
 unfoldable pub unit_of : Data → Option UnitPlan
@@ -88,7 +81,7 @@ unfoldable pub ask_of : Data → Option Step
 ask_of d = given (has_only (codes "do" ∷ codes "query" ∷ codes "usr" ∷ []) d) do
   query ← field (codes "query") (λ word. given (is_word (codes "def") word) (Some true)) d
   usr ← field (codes "usr") text_of d
-  Some (Ask (Def usr))
+  Some (Ask usr)
 
 -- exactly `do`
 unfoldable pub plain_step : Step → Data → Option Step
@@ -105,9 +98,9 @@ step_by_word word d =
 unfoldable pub step_of : Data → Option Step
 step_of d = field (codes "do") (λ word. step_by_word word d) d
 
--- at most 4,096 steps
+-- at most so many steps
 unfoldable pub lane_of : Data → Option (List Step)
-lane_of d = array_of 4096 step_of d
+lane_of d = array_of MAX_STEPS step_of d
 
 -- exactly `format`, the number 1, and `lanes`, at most one
 unfoldable pub first_script : Data → Option ScriptValue

@@ -1,7 +1,8 @@
 //! Reading the first form of a script from a JSON value, one reader an object.
-ghost use Rattle.std.specs.Prelude.{◌≡◌, ◌∷◌, []};
+ghost use Rattle.std.specs.Prelude.{◌≡◌, ◌∷◌, [], Some};
 ghost use Rattle.std.specs.Str.{bytes_eq};
 ghost use Rattle.serde_json.specs.View.{view};
+ghost use Rattle.ix_types.specs.declared.code.TheConstants.Roles.{DEFINITION};
 ghost use Rattle.ix_script.specs.Gives.{Gives};
 ghost use Rattle.ix_script.specs.Reading.{symbol_of, only_symbol_of, roles_of, occurrence_of, only_occurrence_of, build_of, ask_of, plain_step, step_by_word, first_script};
 
@@ -9,9 +10,9 @@ use crate::fault::Fault;
 use crate::json::{
     Item, array, has_only, is_word, member, single, text_field, text_or_empty_field, whole_field,
 };
-use crate::plan::{OccurrencePlan, RecordPlan, Step, SymbolPlan, UnitPlan};
+use crate::plan::{MAX_STEPS, OccurrencePlan, RecordPlan, Step, SymbolPlan, UnitPlan};
 use crate::script::Script;
-use ix_types::{Kind, Lang, Props, Query, Roles, Seq, Text};
+use ix_types::{Format, Kind, Lang, Props, Roles, Seq, Text};
 use serde_json::Value;
 use std::alloc::Global;
 
@@ -40,7 +41,7 @@ impl Item for Seq<Step> {
 
     #[tactic(auto, unfolding(crate::specs::Reading::lane_of))]
     fn read(alloc: Global, value: &Value) -> Result<Seq<Step>, Fault> {
-        array(alloc, value, 4096)
+        array(alloc, value, MAX_STEPS)
     }
 }
 
@@ -105,7 +106,7 @@ fn ask(alloc: Global, value: &Value) -> Result<Step, Fault>
         return Err(Fault::Form);
     }
     let usr = text_field(alloc, value, "usr")?;
-    Ok(Step::Ask(Query::Def { usr }))
+    Ok(Step::Ask { usr })
 }
 
 impl Item for UnitPlan {
@@ -150,6 +151,7 @@ impl Item for RecordPlan {
         let list = member(value, "occurrences")?;
         let occurrence = only_occurrence(alloc, &symbol.usr, list)?;
         Ok(RecordPlan {
+            format: Format::One,
             path,
             system: false,
             symbols: one(alloc, symbol)?,
@@ -189,9 +191,10 @@ fn symbol(alloc: Global, value: &Value) -> Result<SymbolPlan, Fault>
     Ok(SymbolPlan {
         usr,
         name,
-        kind: struct_kind(),
-        lang: swift(),
+        kind: Kind::STRUCT,
+        lang: Lang::SWIFT,
         props: no_props(),
+        codegen: no_text(alloc)?,
     })
 }
 
@@ -242,24 +245,6 @@ fn is_same(text: &Text, other: &Text) -> bool
     text.bytes() == other.bytes()
 }
 
-fn struct_kind() -> Kind
-    ensures { result ≡ 6 }
-{
-    match Kind::new(6) {
-        Some(kind) => kind,
-        None => unreachable!(),
-    }
-}
-
-fn swift() -> Lang
-    ensures { result ≡ 100 }
-{
-    match Lang::new(100) {
-        Some(lang) => lang,
-        None => unreachable!(),
-    }
-}
-
 fn no_props() -> Props
     ensures { result ≡ 0 }
 {
@@ -270,10 +255,20 @@ fn no_props() -> Props
 }
 
 fn definition() -> Roles
-    ensures { result ≡ 2 }
+    ensures { result ≡ DEFINITION }
 {
     match Roles::new(Roles::DEFINITION) {
         Some(roles) => roles,
         None => unreachable!(),
+    }
+}
+
+/// The empty text.
+fn no_text(alloc: Global) -> Result<Text, Fault>
+    ensures { Gives (λ text. text) result (Some []) }
+{
+    match Text::read_or_empty(alloc, &[]) {
+        Ok(text) => Ok(text),
+        Err(_) => Err(Fault::Memory),
     }
 }

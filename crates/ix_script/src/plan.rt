@@ -1,8 +1,11 @@
 //! The steps of a lane, and the described compile jobs among them. Symbols are named by their USRs.
-use ix_types::{Kind, Lang, Props, Query, Roles, Seq, Text};
+use ix_types::{Format, Kind, Lang, Props, Roles, Seq, Text};
+
+/// The most steps that a lane has.
+pub const MAX_STEPS: usize = 4096;
 
 /// One step of a lane.
-#[derive(Drop)]
+#[derive(Debug, Drop, PartialEq, Eq)]
 pub enum Step {
     /// Writes the records of a compile job, and then its unit.
     Build(UnitPlan),
@@ -10,12 +13,12 @@ pub enum Step {
     Poll,
     /// Takes up the newest version.
     Refresh,
-    /// Asks the version that the lane holds.
-    Ask(Query),
+    /// Asks the version that the lane holds where the USR is defined.
+    Ask { usr: Text },
 }
 
 /// What one compile job knows: its output, what it depends on, and its includes.
-#[derive(Drop)]
+#[derive(Debug, Drop, PartialEq, Eq)]
 pub struct UnitPlan {
     pub output: Text,
     pub main: Text,
@@ -27,9 +30,10 @@ pub struct UnitPlan {
     pub includes: Seq<IncludePlan>,
 }
 
-/// What is known of one source file.
-#[derive(Drop)]
+/// What is known of one source file, and the format in which it is recorded.
+#[derive(Debug, Drop, PartialEq, Eq)]
 pub struct RecordPlan {
+    pub format: Format,
     pub path: Text,
     pub system: bool,
     pub symbols: Seq<SymbolPlan>,
@@ -37,32 +41,33 @@ pub struct RecordPlan {
 }
 
 /// A file that a job read and that has no record.
-#[derive(Drop)]
+#[derive(Debug, Drop, PartialEq, Eq)]
 pub struct FilePlan {
     pub path: Text,
     pub system: bool,
 }
 
 /// An include at a line, counted from 1.
-#[derive(Drop)]
+#[derive(Debug, Drop, PartialEq, Eq)]
 pub struct IncludePlan {
     pub from: Text,
     pub line: u32,
     pub to: Text,
 }
 
-/// A symbol of a source file.
-#[derive(Drop)]
+/// A symbol of a source file. Its code generation name is empty where it has none.
+#[derive(Debug, Drop, PartialEq, Eq)]
 pub struct SymbolPlan {
     pub usr: Text,
     pub name: Text,
     pub kind: Kind,
     pub lang: Lang,
     pub props: Props,
+    pub codegen: Text,
 }
 
 /// A place where a symbol stands. Lines and columns count from 1.
-#[derive(Drop)]
+#[derive(Debug, Drop, PartialEq, Eq)]
 pub struct OccurrencePlan {
     pub usr: Text,
     pub line: u32,
@@ -72,7 +77,7 @@ pub struct OccurrencePlan {
 }
 
 /// What another symbol is to an occurrence's.
-#[derive(Drop)]
+#[derive(Debug, Drop, PartialEq, Eq)]
 pub struct RelationPlan {
     pub usr: Text,
     pub roles: Roles,

@@ -8,29 +8,34 @@ use crate::plan::Step;
 use ix_types::Seq;
 use std::alloc::Global;
 use std::marker::Model;
+use thiserror::Error;
 
 /// The lanes of a script, and the order in which their steps are begun: numbers of lanes.
-#[derive(Drop)]
+#[derive(Debug, Drop)]
 pub struct Script {
     pub lanes: Seq<Seq<Step>>,
     pub order: Seq<u32>,
 }
 
 /// Why a script is refused.
-#[derive(Clone, Copy, Debug, PartialEq, Eq)]
+#[derive(Clone, Copy, Debug, Error, PartialEq, Eq)]
 pub enum ScriptRefusal {
     /// The bytes are no JSON text.
+    #[error("not JSON")]
     NotJson,
     /// The JSON value isn't of the first form.
+    #[error("not of the first form")]
     NotFirst,
 }
 
 /// Why no script was read.
-#[derive(Clone, Copy, Debug, PartialEq, Eq)]
+#[derive(Clone, Copy, Debug, Error, PartialEq, Eq)]
 pub enum ScriptError {
     /// Memory was wanting.
+    #[error("memory")]
     Memory,
     /// The bytes are refused.
+    #[error("{0}")]
     Refused(ScriptRefusal),
 }
 

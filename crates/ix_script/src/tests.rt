@@ -3,7 +3,7 @@ ghost use Rattle.std.specs.Prelude.{◌<◌};
 use crate::{
     OccurrencePlan, RecordPlan, Script, ScriptError, ScriptRefusal, Step, SymbolPlan, UnitPlan,
 };
-use ix_types::Query;
+use ix_types::{Format, Kind, Lang, Roles};
 use std::alloc::Global;
 use std::process::Abort;
 use std::test::Fail;
@@ -171,7 +171,7 @@ fn is_worked_lane(lane: &[Step]) -> bool {
             Step::Build(unit),
             Step::Poll,
             Step::Refresh,
-            Step::Ask(Query::Def { usr }),
+            Step::Ask { usr },
         ] => is_worked_unit(unit) && usr.bytes() == b"s:1MA".as_slice(),
         _ => false,
     }
@@ -192,7 +192,8 @@ fn is_worked_unit(unit: &UnitPlan) -> bool {
 fn is_worked_record(record: &RecordPlan) -> bool {
     let symbols = record.symbols.as_slice();
     let occurrences = record.occurrences.as_slice();
-    record.path.bytes() == b"a.swift".as_slice()
+    record.format == Format::One
+        && record.path.bytes() == b"a.swift".as_slice()
         && !record.system
         && matches!(symbols, [symbol] if is_worked_symbol(symbol))
         && matches!(occurrences, [occurrence] if is_worked_occurrence(occurrence))
@@ -201,16 +202,17 @@ fn is_worked_record(record: &RecordPlan) -> bool {
 fn is_worked_symbol(symbol: &SymbolPlan) -> bool {
     symbol.usr.bytes() == b"s:1MA".as_slice()
         && symbol.name.bytes() == b"A".as_slice()
-        && symbol.kind.bits() == 6
-        && symbol.lang.bits() == 100
+        && symbol.kind == Kind::STRUCT
+        && symbol.lang == Lang::SWIFT
         && symbol.props.bits() == 0
+        && symbol.codegen.bytes().is_empty()
 }
 
 fn is_worked_occurrence(occurrence: &OccurrencePlan) -> bool {
     occurrence.usr.bytes() == b"s:1MA".as_slice()
         && occurrence.line == 1
         && occurrence.col == 8
-        && occurrence.roles.bits() == 2
+        && occurrence.roles.bits() == Roles::DEFINITION
         && occurrence.relations.as_slice().is_empty()
 }
 
@@ -292,7 +294,7 @@ fn reads_escapes_as_what_they_stand_for(rt: HostRuntime) -> Result<(), Fail> {
 
 fn asks_for(lane: &[Step], text: &[u8]) -> bool {
     match lane {
-        [Step::Ask(Query::Def { usr })] => usr.bytes() == text,
+        [Step::Ask { usr }] => usr.bytes() == text,
         _ => false,
     }
 }
@@ -355,6 +357,21 @@ fn refuses_json_that_nests_too_deep(rt: HostRuntime) -> Result<(), Fail> {
             bytes.push(b']')?;
         }
         assert_eq!(rt; answer(rt.alloc(), bytes.as_slice()), want, "{depth} deep");
+    }
+    Ok(())
+}
+
+#[test]
+fn errors_have_their_texts(rt: HostRuntime) -> Result<(), Fail> {
+    for (error, want) in [
+        (ScriptError::Memory, "memory"),
+        (ScriptError::Refused(ScriptRefusal::NotJson), "not JSON"),
+        (
+            ScriptError::Refused(ScriptRefusal::NotFirst),
+            "not of the first form",
+        ),
+    ] {
+        assert_eq!(rt; format!(in rt.alloc(); "{error}")?.as_str(), want);
     }
     Ok(())
 }

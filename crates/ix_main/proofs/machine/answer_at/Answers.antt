@@ -8,7 +8,7 @@ use Rattle.ix_main.proofs.machine.answer_at.Goals as goal
 
 pub returns : goal.returns
 returns c =
-    let over = answer_over c.args.query.now in
+    let over = answer_over c.args.usr.now in
     let same = ap (λ (ps : List (Bor UnitPlan)). over (rows_of_plans (map (λ p. p.now) ps))) c.deref.ensures.value
     ∙ ap (λ ps. over (rows_of_plans ps)) c.in_ok-plans.ensures
     ∙ ap (λ ps. over (rows_of_plans (map (λ (e : List ℕ × UnitPlan). e.1) (plans_of ps)))) c.front.ensures

@@ -1,65 +1,31 @@
 //! The top call without threads: words and bytes come in, bytes and a status go out.
 ghost use Rattle.std.specs.Prelude.{◌≡◌, ◌≤◌, ◌+◌, ◌↔◌, ◌⊎◌, ◌≢◌, length, drop, codes, Some, IsTrue, IfOk, IfSome, Ok, Err};
-ghost use Rattle.ix_types.specs.Count.{Rose};
+ghost use Rattle.ix_types.specs.Count.{Rose, CountsWhere};
 ghost use Rattle.ix_types.specs.Name.{sha_name};
 ghost use Rattle.ix_io.specs.Transfer.{TakesAtMost};
 ghost use Rattle.ix_script.specs.FirstForm.{IsFirstForm};
 ghost use Rattle.ix_script.specs.Reading.{script_of};
+ghost use Rattle.ix_script.specs.declared.script.ScriptRefusal.{ScriptRefusal};
 ghost use Rattle.ix_model.specs.Machine.{empty_opening};
 ghost use Rattle.ix_runs.specs.Run.{IsReplay};
 ghost use Rattle.ix_main.specs.Output.{IsReplayText, IsOutput, WritesOutput, max_input};
-ghost use Rattle.ix_main.specs.Ending.{replay_words, status_of, ending_for, IsEndingFor, IsAnswered, IsReadWhole, WritesNothing, IsStopped, WritesPart};
+ghost use Rattle.ix_main.specs.Ending.{replay_words, status_of, is_read_fault, is_write_fault, ending_for, IsEndingFor, IsAnswered, IsReadWhole, WritesNothing, IsStopped, WritesPart};
 
+use crate::ending::Ending;
 use crate::machine::run_lane;
 use ix_dir::Dir;
-use ix_io::transfer::{Input, ReadError, read_all, write_all};
+use ix_io::transfer::{Intake, ReadError, read_all, write_all};
 use ix_io::{Sink, SinkError, Source};
 use ix_runs::{Transcript, laws, text_of};
-use ix_script::{Script, ScriptError, ScriptRefusal};
+use ix_script::{Script, ScriptError};
 use ix_types::{Memory, Seq};
 use std::alloc::Global;
 
 /// The most bytes that a script has.
-const MAX_INPUT: usize = 16_777_216;
-
-/// How a call ended.
-#[derive(Clone, Copy, Debug, PartialEq, Eq)]
-pub enum Ending {
-    /// The output was written whole.
-    Done,
-    /// The words are of no form.
-    BadWords,
-    /// The input is refused.
-    BadScript(ScriptRefusal),
-    /// A read of the source failed.
-    ReadFault,
-    /// A write to the sink failed.
-    WriteFault,
-    /// Memory was wanting.
-    Memory,
-    /// The source held more than 16,777,216 bytes.
-    TooLarge,
-}
-
-impl Ending {
-    /// The exit status: 0, 1, 2, 4, 5, 6 and 7, as the variants stand.
-    pub fn status(self) -> u8
-        ensures { result ≡ status_of self }
-    {
-        match self {
-            Ending::Done => 0,
-            Ending::BadWords => 1,
-            Ending::BadScript(_) => 2,
-            Ending::ReadFault => 4,
-            Ending::WriteFault => 5,
-            Ending::Memory => 6,
-            Ending::TooLarge => 7,
-        }
-    }
-}
+pub const MAX_INPUT: usize = 16_777_216;
 
 /// How a call ended, and the directory that it was given.
-#[derive(Drop)]
+#[derive(Debug, Drop)]
 pub struct Ended<D> {
     pub status: u8,
     pub ending: Ending,
@@ -90,14 +56,12 @@ pub fn plain<S: Source, K: Sink, D: Dir>(
     // The bytes decide between Done, BadScript and TooLarge; only a fault or want of memory stands in the place of one.
     ensures exact { words.now ≡ replay_words →
         IfSome (S.remaining source.old) (λ bytes. IsEndingFor (ending_for bytes) result.ending) }
-    ensures read_fault { result.ending ≡ Ending.ReadFault → Rose (S.faults source.old) (S.faults source.new) }
-    ensures write_fault { result.ending ≡ Ending.WriteFault → Rose (K.faults sink.old) (K.faults sink.new) }
+    ensures read_fault { CountsWhere (is_read_fault result.ending) (S.faults source.old) (S.faults source.new) }
+    ensures write_fault { CountsWhere (is_write_fault result.ending) (K.faults sink.old) (K.faults sink.new) }
     ensures complete { words.now ≡ replay_words
         → ¬ Rose (S.faults source.old) (S.faults source.new) → ¬ Rose (K.faults sink.old) (K.faults sink.new)
         → IfSome (S.remaining source.old) (λ bytes. ending_for bytes ≡ Ending.Done
         → (result.ending ≡ Ending.Done) ⊎ (result.ending ≡ Ending.Memory)) }
-    ensures source_faults { (result.ending ≡ Ending.ReadFault) ⊎ (S.faults source.new ≡ S.faults source.old) }
-    ensures sink_faults { (result.ending ≡ Ending.WriteFault) ⊎ (K.faults sink.new ≡ K.faults sink.old) }
 
     // How much was read and written.
     ensures nothing_read { result.ending ≡ Ending.BadWords → S.remaining source.new ≡ S.remaining source.old }
@@ -108,8 +72,7 @@ pub fn plain<S: Source, K: Sink, D: Dir>(
     ensures part_written { IsStopped result.ending →
         IfSome (S.remaining source.old) (WritesPart result.ending (K.contents sink.old) (K.contents sink.new)) }
 
-    ensures moves { D.moves result.dir ≡ D.moves dir }
-    ensures faults { D.faults result.dir ≡ D.faults dir }
+    ensures dir { D.state result.dir ≡ D.state dir }
 {
     let ending = if is_replay(words) {
         replay(alloc, source, sink)
@@ -144,10 +107,8 @@ fn replay<S: Source, K: Sink>(alloc: Global, source: &mut S, sink: &mut K) -> En
         IfSome (S.remaining source.old) (WritesOutput (K.contents sink.old) (K.contents sink.new)) }
     ensures exact { IfSome (S.remaining source.old) (λ bytes. IsEndingFor (ending_for bytes) result) }
     ensures not_words { result ≢ Ending.BadWords }
-    ensures read_fault { result ≡ Ending.ReadFault → Rose (S.faults source.old) (S.faults source.new) }
-    ensures write_fault { result ≡ Ending.WriteFault → Rose (K.faults sink.old) (K.faults sink.new) }
-    ensures source_faults { (result ≡ Ending.ReadFault) ⊎ (S.faults source.new ≡ S.faults source.old) }
-    ensures sink_faults { (result ≡ Ending.WriteFault) ⊎ (K.faults sink.new ≡ K.faults sink.old) }
+    ensures read_fault { CountsWhere (is_read_fault result) (S.faults source.old) (S.faults source.new) }
+    ensures write_fault { CountsWhere (is_write_fault result) (K.faults sink.old) (K.faults sink.new) }
     ensures read { TakesAtMost (S.remaining source.old) (S.remaining source.new) (max_input + 1) }
     ensures rest { IsReadWhole result → IfSome (S.remaining source.old) (λ bytes.
         S.remaining source.new ≡ Some (drop (max_input + 1) bytes)) }
@@ -156,8 +117,8 @@ fn replay<S: Source, K: Sink>(alloc: Global, source: &mut S, sink: &mut K) -> En
         IfSome (S.remaining source.old) (WritesPart result (K.contents sink.old) (K.contents sink.new)) }
 {
     match read_all(alloc, source, MAX_INPUT) {
-        Ok(Input::All(bytes)) => answer_bytes(alloc, bytes.as_slice(), sink),
-        Ok(Input::TooLarge) => Ending::TooLarge,
+        Ok(Intake::All(bytes)) => answer_bytes(alloc, bytes.as_slice(), sink),
+        Ok(Intake::TooLarge) => Ending::TooLarge,
         Err(ReadError::Failed) => Ending::ReadFault,
         Err(ReadError::Memory) => Ending::Memory,
     }
@@ -169,8 +130,7 @@ fn answer_bytes<K: Sink>(alloc: Global, bytes: &[u8], sink: &mut K) -> Ending
     ensures done { result ≡ Ending.Done → WritesOutput (K.contents sink.old) (K.contents sink.new) bytes.now }
     ensures exact { IsEndingFor (ending_for bytes.now) result }
     ensures own { IsAnswered result }
-    ensures write_fault { result ≡ Ending.WriteFault → Rose (K.faults sink.old) (K.faults sink.new) }
-    ensures sink_faults { (result ≡ Ending.WriteFault) ⊎ (K.faults sink.new ≡ K.faults sink.old) }
+    ensures write_fault { CountsWhere (is_write_fault result) (K.faults sink.old) (K.faults sink.new) }
     ensures nothing_written { WritesNothing result → K.contents sink.new ≡ K.contents sink.old }
     ensures part_written { IsStopped result → WritesPart result (K.contents sink.old) (K.contents sink.new) bytes.now }
 {
