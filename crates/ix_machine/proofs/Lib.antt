@@ -1,0 +1,16 @@
+pub mod Calls
+pub mod Cases
+pub mod Changes
+pub mod Collects
+pub mod Counted
+pub mod Frames
+pub mod Judged
+pub mod Lists
+pub mod Missing
+pub mod Needed
+pub mod Publishing
+pub mod Records
+pub mod Refusals
+pub mod RefusedUnits
+pub mod Rows
+pub mod Runs

@@ -1,0 +1,10 @@
+pub mod Counts
+pub mod Given
+pub mod Laws
+pub mod Needs
+pub mod Opening
+pub mod Run
+pub mod Sound
+pub mod State
+pub mod Step
+pub mod WorkedRows
