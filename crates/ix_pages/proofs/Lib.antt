@@ -1,0 +1,12 @@
+pub mod Elements
+pub mod Order
+pub mod Rising
+pub mod Parting
+pub mod Paged
+pub mod Parts
+pub mod Trees
+pub mod Searches
+pub mod Kept
+pub mod Roots
+pub mod Changing
+pub mod OtherWords

@@ -1,0 +1,4 @@
+pub mod Pairs
+pub mod Paging
+pub mod Tree
+pub mod Changes

@@ -1,0 +1,92 @@
+//! The pairs of a map from a place on.
+ghost use Rattle.std.specs.Prelude.{◌≡◌, ◌++◌, [], ◌∷◌, MatchOption};
+ghost use Rattle.std.specs.Map.Iter.{deref_pair};
+ghost use Rattle.std.specs.Iterator.{YieldsFirstBy, item_count};
+
+use crate::page::Entry;
+use crate::search::page_at;
+use crate::tree::{Tree, extent_of};
+use std::marker::Model;
+use std::sync::Arc;
+
+/// The pairs from a place on, seen as their list.
+#[derive(Drop)]
+pub struct Range<'a, K, V> {
+    /// What is left of a page.
+    page: &'a [Arc<Entry<K, V>>],
+    /// The number of the next page.
+    behind: u64,
+    /// All pages.
+    tree: Option<&'a Tree<K, V>>,
+}
+
+impl<'a, K, V> Model for Range<'a, K, V> {
+    ghost use Rattle.std.specs.Prelude.{List, ◌++◌, map, drop, option_copied};
+    ghost use Rattle.ix_pages.specs.Paging.{pairs_of};
+    ghost use Rattle.ix_pages.specs.Tree.{pair_of, pages_under, IsWholeUnder};
+
+    ghost Value = { List (K × V) };
+
+    ghost view = { λ range. map pair_of range.page.now ++ pairs_of (drop range.behind (pages_under (option_copied range.tree))) };
+
+    ghost invariant = { λ range. IsWholeUnder (option_copied range.tree) };
+}
+
+impl<'a, K, V> Range<'a, K, V> {
+    ghost use Rattle.std.specs.Prelude.{map, drop, option_copied};
+    ghost use Rattle.ix_pages.specs.Paging.{pairs_of};
+    ghost use Rattle.ix_pages.specs.Tree.{pair_of, pages_under, IsWholeUnder};
+
+    /// What is left of a page, and the pages from a number on.
+    pub(crate) fn new(
+        page: &'a [Arc<Entry<K, V>>],
+        behind: u64,
+        tree: Option<&'a Tree<K, V>>,
+    ) -> Range<'a, K, V>
+        requires { IsWholeUnder (option_copied tree) }
+        ensures { result ≡ map pair_of page.entry.now ++ pairs_of (drop behind (pages_under (option_copied tree.entry))) }
+    {
+        Range { page, behind, tree }
+    }
+
+    /// The first pair; None exactly where there is none. The others stay.
+    fn take_first(&mut self) -> Option<(&'a K, &'a V)>
+        ensures { MatchOption result ((self.old ≡ []) × (self.new ≡ [])) (λ pair. self.old ≡ deref_pair pair ∷ self.new) }
+    {
+        if let Some((entry, rest)) = self.page.split_first() {
+            self.page = rest;
+            return Some((&entry.key, &entry.value));
+        }
+        match self.tree {
+            None => None,
+            Some(tree) => {
+                if self.behind >= extent_of(tree).pages {
+                    return None;
+                }
+                match page_at(tree, self.behind) {
+                    Some(page) => match page.split_first() {
+                        Some((entry, rest)) => {
+                            self.page = rest;
+                            self.behind += 1;
+                            Some((&entry.key, &entry.value))
+                        }
+                        None => unreachable!(),
+                    },
+                    None => unreachable!(),
+                }
+            }
+        }
+    }
+}
+
+impl<'a, K, V> Iterator for Range<'a, K, V> {
+    type Item = (&'a K, &'a V);
+
+    ghost next_gives = { YieldsFirstBy deref_pair (λ range. range) };
+
+    ghost remaining = { item_count (λ range. range) };
+
+    fn next(&mut self) -> Option<(&'a K, &'a V)> {
+        self.take_first()
+    }
+}
