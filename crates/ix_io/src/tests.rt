@@ -7,10 +7,10 @@ ghost use Rattle.ix_io.specs.Transfer.{intake_of};
 use crate::transfer::{Intake, ReadError, read_all, write_all};
 use crate::{MemorySink, MemorySource, ReaderSource, Sink, SinkError, Source, WriterSink};
 use ix_types::{Failed, Seq};
-use std::alloc::{AllocError, Global};
+use std::alloc::Global;
 use std::io;
 use std::io::{ErrorKind, Read, Write};
-use std::test::Fail;
+use std::process::Abort;
 
 /// A reader or a writer that is interrupted at each of its first calls, as many as said, fails at the
 /// call after them, where it is broken, and at all others does what the one within does.
@@ -104,43 +104,45 @@ fn takes<K: Sink>(sink: &mut K, bytes: &[u8], count: Option<usize>) -> bool {
     }
 }
 
-fn seq<T: Copy>(alloc: Global, items: &[T]) -> Result<Seq<T>, AllocError> {
-    Ok(Seq::of(Vec::from_slice(alloc, items)?))
+fn seq<T: Copy>(alloc: Global, rt: &impl Abort, items: &[T]) -> Seq<T> {
+    Seq::of(Vec::from_slice(alloc, items).expect(rt, "memory"))
 }
 
-/// A source of four bytes, of which a read gives at most so many, and the read of that number fails.
-fn abcd(alloc: Global, piece: u8, failing: u64) -> Result<MemorySource, AllocError> {
-    let fails_at = seq(alloc, &[failing])?;
-    Ok(MemorySource::new(seq(alloc, b"abcd")?, usize::from(piece).max(1), fails_at))
+/// A source of four bytes that gives them one by one. The read of that number fails.
+fn abcd(alloc: Global, rt: &impl Abort, failing: u64) -> MemorySource {
+    let fails = seq(alloc, rt, &[failing]);
+    MemorySource::new(seq(alloc, rt, b"abcd"), 1, fails)
 }
 
-/// An empty sink, of which a write takes at most so many bytes, and the writes of these numbers fail.
-fn sink(alloc: Global, piece: u8, failing: &[u64]) -> Result<MemorySink, AllocError> {
-    Ok(MemorySink::new(alloc, usize::from(piece).max(1), seq(alloc, failing)?))
+/// Whether the first bytes come one by one, with a fault between them.
+fn gives_with_a_fault<S: Source>(source: &mut S) -> bool {
+    gives(source, b"a") && fails(source) && gives(source, b"b")
 }
 
 #[test]
-fn a_memory_source_gives_pieces_and_fails_where_chosen(rt: HostRuntime) -> Result<(), Fail> {
-    let mut source = abcd(rt.alloc(), 1, 2)?;
-    assert!(rt; gives(&mut source, b"a"));
-    assert!(rt; fails(&mut source));
-    assert!(rt; gives(&mut source, b"b"));
+fn a_memory_source_gives_pieces_and_fails_where_chosen(rt: HostRuntime) {
+    let mut source = abcd(rt.alloc(), &rt, 2);
+    assert!(rt; gives_with_a_fault(&mut source));
     assert_eq!(rt; source.left(), b"cd".as_slice());
     assert_eq!(rt; source.faults(), 1);
-    Ok(())
+}
+
+/// Whether every other write fails, and those between take a byte.
+fn takes_with_faults<K: Sink>(sink: &mut K) -> bool {
+    takes(sink, b"abc", Some(1))
+        && takes(sink, b"bc", None)
+        && takes(sink, b"bc", Some(1))
+        && takes(sink, b"c", None)
+        && takes(sink, b"", Some(0))
 }
 
 #[test]
-fn a_memory_sink_takes_pieces_and_fails_where_chosen(rt: HostRuntime) -> Result<(), Fail> {
-    let mut sink = sink(rt.alloc(), 1, &[2, 4])?;
-    assert!(rt; takes(&mut sink, b"abc", Some(1)));
-    assert!(rt; takes(&mut sink, b"bc", None));
-    assert!(rt; takes(&mut sink, b"bc", Some(1)));
-    assert!(rt; takes(&mut sink, b"c", None));
-    assert!(rt; takes(&mut sink, b"", Some(0)));
+fn a_memory_sink_takes_pieces_and_fails_where_chosen(rt: HostRuntime) {
+    let fails = seq(rt.alloc(), &rt, &[2, 4]);
+    let mut sink = MemorySink::new(rt.alloc(), 1, fails);
+    assert!(rt; takes_with_faults(&mut sink));
     assert_eq!(rt; sink.written(), b"ab".as_slice());
     assert_eq!(rt; sink.faults(), 2);
-    Ok(())
 }
 
 /// Whether the first read of a reader is as the case says.
@@ -189,20 +191,27 @@ fn adapters_fail_where_std_fails_and_try_an_interrupted_call_a_hundred_times(rt:
     }
 }
 
+/// Whether a source fails once, and then gives three bytes to their end.
+fn goes_on<S: Source>(source: &mut S) -> bool {
+    fails(source) && gives(source, b"ab") && gives(source, b"c") && gives(source, b"")
+}
+
+/// Whether a sink fails once, then takes three bytes, and then no more.
+fn takes_three<K: Sink>(sink: &mut K) -> bool {
+    takes(sink, b"abcd", None)
+        && takes(sink, b"abcd", Some(3))
+        && takes(sink, b"", Some(0))
+        && takes(sink, b"d", None)
+}
+
 #[test]
 fn adapters_go_on_after_a_failure(rt: HostRuntime) {
     let broken = when(0, true, false, 1);
     let mut source = ReaderSource::new(over(b"abc".as_slice(), broken));
-    assert!(rt; fails(&mut source));
-    assert!(rt; gives(&mut source, b"ab"));
-    assert!(rt; gives(&mut source, b"c"));
-    assert!(rt; gives(&mut source, b""));
+    assert!(rt; goes_on(&mut source));
     let mut room = [0u8; 3];
     let mut sink = WriterSink::new(over(room.as_mut_slice(), broken));
-    assert!(rt; takes(&mut sink, b"abcd", None));
-    assert!(rt; takes(&mut sink, b"abcd", Some(3)));
-    assert!(rt; takes(&mut sink, b"", Some(0)));
-    assert!(rt; takes(&mut sink, b"d", None));
+    assert!(rt; takes_three(&mut sink));
     assert_eq!(rt; sink.faults(), 2);
 }
 
@@ -249,53 +258,44 @@ fn a_transfer_moves_all_bytes(rt: HostRuntime) {
     assert_eq!(rt; sink.into_inner().as_slice(), b"abcd".as_slice());
 }
 
-/// Reads four bytes one by one, and answers whether they come whole within a limit, and how many are left.
-fn read_within(alloc: Global, limit: u8) -> Result<(bool, usize), ReadError> {
-    let Ok(mut source) = abcd(alloc, 1, 0) else {
-        return Err(ReadError::Memory);
-    };
-    let is_whole = match read_memory(alloc, &mut source, limit.into())? {
-        Intake::All(bytes) => bytes.as_slice() == b"abcd".as_slice(),
-        Intake::TooLarge => false,
-    };
-    Ok((is_whole, source.left().len()))
+/// Reads four bytes one by one within a limit, and checks what comes of it, and which bytes are left.
+fn check_reading(alloc: Global, rt: &impl Abort, failing: u64, limit: u8, want: &str) {
+    let mut source = abcd(alloc, rt, failing);
+    let answer = read_memory(alloc, &mut source, limit.into());
+    let left = source.left();
+    let printed = format!(in alloc; "{answer:?} {left:?}").expect(rt, "memory");
+    assert_eq!(rt; printed.as_str(), want);
 }
 
 #[test]
 fn reading_ends_at_the_end_or_one_byte_past_the_limit(rt: HostRuntime) {
-    assert_eq!(rt; read_within(rt.alloc(), 9), Ok((true, 0)));
-    assert_eq!(rt; read_within(rt.alloc(), 4), Ok((true, 0)));
-    assert_eq!(rt; read_within(rt.alloc(), 3), Ok((false, 0)));
-    assert_eq!(rt; read_within(rt.alloc(), 1), Ok((false, 2)));
-    assert_eq!(rt; read_within(rt.alloc(), 0), Ok((false, 3)));
+    check_reading(rt.alloc(), &rt, 0, 9, "Ok(All([97, 98, 99, 100])) []");
+    check_reading(rt.alloc(), &rt, 0, 4, "Ok(All([97, 98, 99, 100])) []");
+    check_reading(rt.alloc(), &rt, 0, 3, "Ok(TooLarge) []");
+    check_reading(rt.alloc(), &rt, 0, 1, "Ok(TooLarge) [99, 100]");
+    check_reading(rt.alloc(), &rt, 0, 0, "Ok(TooLarge) [98, 99, 100]");
 }
 
 #[test]
-fn reading_ends_at_the_first_failed_read(rt: HostRuntime) -> Result<(), Fail> {
-    let mut source = abcd(rt.alloc(), 1, 3)?;
-    assert!(rt; read_all(rt.alloc(), &mut source, 9) == Err(ReadError::Failed));
-    assert_eq!(rt; source.left(), b"cd".as_slice());
-    Ok(())
+fn reading_ends_at_the_first_failed_read(rt: HostRuntime) {
+    check_reading(rt.alloc(), &rt, 3, 9, "Err(Failed) [99, 100]");
 }
 
 #[test]
-fn a_sink_takes_ten_bytes_and_fails(rt: HostRuntime) -> Result<(), Fail> {
-    let mut sink = sink(rt.alloc(), 10, &[2])?;
-    assert_eq!(rt;
-        write_memory(&mut sink, b"0 publish ab"),
-        Err(SinkError::Failed)
-    );
+fn a_sink_takes_ten_bytes_and_fails(rt: HostRuntime) {
+    let fails = seq(rt.alloc(), &rt, &[2]);
+    let mut sink = MemorySink::new(rt.alloc(), 10, fails);
+    let failed = write_memory(&mut sink, b"0 publish ab");
+    assert_eq!(rt; failed, Err(SinkError::Failed));
     assert_eq!(rt; sink.written(), b"0 publish ".as_slice());
     assert_eq!(rt; write_memory(&mut sink, b"cd"), Ok(()));
     assert_eq!(rt; sink.written(), b"0 publish cd".as_slice());
-    Ok(())
 }
 
 #[test]
-fn errors_have_their_texts(rt: HostRuntime) -> Result<(), Fail> {
+fn errors_have_their_texts(rt: HostRuntime) {
     let [read, memory] = [ReadError::Failed, ReadError::Memory];
     let [sink, wanting] = [SinkError::Failed, SinkError::Memory];
-    let text = format!(in rt.alloc(); "{read} {memory} {sink} {wanting}")?;
+    let text = format!(in rt.alloc(); "{read} {memory} {sink} {wanting}").expect(&rt, "memory");
     assert_eq!(rt; text.as_str(), "failed memory failed memory");
-    Ok(())
 }
