@@ -13,6 +13,7 @@ ghost use Rattle.ix_dir.specs.Moves.{area_after};
 ghost use Rattle.ix_dir.specs.Stamps.{IsFresh};
 ghost use Rattle.ix_dir.specs.WhatAChangeLeaves.{LeavesAt};
 ghost use Rattle.ix_unit.specs.Spelling.{UnitSpelling};
+ghost use Rattle.ix_unit.specs.Value.{IsValidUnit};
 ghost use Rattle.ix_unit.specs.declared.batch.UnitPut.{UnitPut};
 ghost use Rattle.ix_unit.specs.declared.value.UnitValue.{UnitValue};
 ghost use Rattle.ix_cabinet.specs.declared.change.Settled.TheVariants as settled;
@@ -53,10 +54,12 @@ pub fn a_spelled_unit_is_a_unit_file()
     ensures { (name_of : List ℕ → List ℕ) (unit : UnitValue) (bytes : List ℕ) → UnitSpelling bytes unit → IsUnitFile name_of (name_of unit.output) bytes }
 {}
 
-/// A unit that a scan found is the one of its file: the file stands under the unit's name, spells the unit, and is that of a unit of this name.
+/// A unit that a scan found is valid and the one of its file: the file stands under the unit's name, spells the unit, and is that of a unit of this
+/// name.
 pub fn a_found_unit_is_that_of_its_file()
     ensures stands { (files : Files) (put : UnitPut) → IsUnitAt files put → IsSome (bytes_at files put.name) }
     ensures spelled { (files : Files) (put : UnitPut) (bytes : List ℕ) → IsUnitAt files put → bytes_at files put.name ≡ Some bytes → UnitSpelling bytes put.unit.value }
+    ensures valid { (name_of : List ℕ → List ℕ) (put : UnitPut) → IsNamedUnit name_of put → IsValidUnit put.unit.value }
     ensures file { (name_of : List ℕ → List ℕ) (put : UnitPut) (bytes : List ℕ) → IsNamedUnit name_of put → UnitSpelling bytes put.unit.value → IsUnitFile name_of put.name bytes }
 {}
 

@@ -10,7 +10,6 @@ use ix_types::{Failed, FileName, Naming, Seq, Sha};
 use ix_unit::{Batch, UnitPut, UnitValue, decode};
 use std::alloc::Global;
 use std::process::Abort;
-use std::test::Fail;
 
 /// The file of a unit of output `abc` and module `M`, but for its digest.
 const ABC: [u8; 126] = [
@@ -70,14 +69,21 @@ fn unit_of(alloc: Global, rt: &impl Abort, word: &str) -> UnitValue
     decode(alloc, &file_of(alloc, rt, word)).expect(rt, "a unit")
 }
 
+fn abc(rt: &impl Abort) -> FileName {
+    FileName::read(ABC_NAME).expect(rt, "a name")
+}
+
+fn abd(rt: &impl Abort) -> FileName {
+    FileName::read(ABD_NAME).expect(rt, "a name")
+}
+
 /// The name of a unit, or of one that went away.
 fn name_of(rt: &impl Abort, word: &str) -> FileName {
-    let digits = match word {
-        "abd" => ABD_NAME,
-        "-abd" => ABD_NAME,
-        _ => ABC_NAME,
-    };
-    FileName::read(digits).expect(rt, "a name")
+    match word {
+        "abd" => abd(rt),
+        "-abd" => abd(rt),
+        _ => abc(rt),
+    }
 }
 
 fn answered(answer: Result<Settled, Failed>) -> &'static str {
@@ -155,7 +161,7 @@ fn check_batch(alloc: Global, rt: &impl Abort, batch: &Batch, want: &str) {
 }
 
 fn error_of(rt: &impl Abort, word: &str) -> ScanError {
-    let name = name_of(rt, "abc");
+    let name = abc(rt);
     match word {
         "fault" => ScanError::Fault,
         "lost" => ScanError::Lost { name },
@@ -214,129 +220,95 @@ fn failing(alloc: Global, rt: &impl Abort, calls: &[u64]) -> MemoryDir
     MemoryDir::failing(alloc, Seq::of(calls))
 }
 
-/// Calls over a directory in memory, and the numbers of those that fail, 0 for none.
-#[derive(Clone, Copy)]
-struct Run {
-    fails: [u64; 3],
-    calls: &'static str,
+/// Makes the calls over a directory in memory whose calls of these numbers fail.
+fn check_run(alloc: Global, rt: &impl Abort, fails: &[u64], calls: &str) {
+    let mut dir = failing(alloc, rt, fails);
+    check_calls(alloc, rt, &mut dir, &mut Stamps::new(alloc), calls);
 }
 
-const RUNS: [Run; 15] = [
+/// A stage is one call; a publication behind its stage and a removal are two.
+#[test]
+fn calls_have_their_numbers(rt: HostRuntime) {
+    let alloc = rt.alloc();
+    check_run(alloc, &rt, &[2], "stage=done list=fault");
+    check_run(alloc, &rt, &[4], "abc=synced list=fault");
+    check_run(alloc, &rt, &[3, 4], "abc=unsynced list=fault");
+    check_run(alloc, &rt, &[2, 3], "abc=fault list=fault");
+    check_run(alloc, &rt, &[3], "-abc=synced list=fault");
+    check_run(alloc, &rt, &[2, 3], "-abc=unsynced list=fault");
+    check_run(alloc, &rt, &[1, 2], "-abc=fault list=fault");
+}
+
+/// A scan makes one call, and one for each change.
+#[test]
+fn a_scan_finds_what_changed(rt: HostRuntime) {
+    let alloc = rt.alloc();
+    let counted =
+        "abc=synced abd=synced scan=abd,abc list=fault abcN=synced scan=abcN list=fault scan= list=fault";
+    check_run(alloc, &rt, &[10, 16, 18], counted);
     // A unit whose sync failed is found, once.
-    Run {
-        fails: [3, 0, 0],
-        calls: "abc=unsynced scan=abc scan=",
-    },
-    // How many calls a stage makes, a publication behind its stage, and a removal.
-    Run {
-        fails: [2, 0, 0],
-        calls: "stage=done list=fault",
-    },
-    Run {
-        fails: [4, 0, 0],
-        calls: "abc=synced list=fault",
-    },
-    Run {
-        fails: [3, 4, 0],
-        calls: "abc=unsynced list=fault",
-    },
-    Run {
-        fails: [2, 3, 0],
-        calls: "abc=fault list=fault",
-    },
-    Run {
-        fails: [3, 0, 0],
-        calls: "-abc=synced list=fault",
-    },
-    Run {
-        fails: [2, 3, 0],
-        calls: "-abc=unsynced list=fault",
-    },
-    Run {
-        fails: [1, 2, 0],
-        calls: "-abc=fault list=fault",
-    },
-    // A scan makes one call, and one for each change.
-    Run {
-        fails: [10, 16, 18],
-        calls: "abc=synced abd=synced scan=abd,abc list=fault abcN=synced scan=abcN list=fault scan= list=fault",
-    },
+    check_run(alloc, &rt, &[3], "abc=unsynced scan=abc scan=");
     // A second publication gives a new stamp.
-    Run {
-        fails: [0, 0, 0],
-        calls: "abc=synced scan=abc abc=synced scan=abc abcN=synced scan=abcN",
-    },
+    let renewed = "abc=synced scan=abc abc=synced scan=abc abcN=synced scan=abcN";
+    check_run(alloc, &rt, &[], renewed);
     // Units and names gone rise: the name of `abd` is the lower one.
-    Run {
-        fails: [0, 0, 0],
-        calls: "abc=synced abd=synced scan=abd,abc -abc=synced -abd=synced scan=-abd,-abc",
-    },
-    // A change that fails changes nothing.
-    Run {
-        fails: [2, 0, 0],
-        calls: "abc=fault scan=",
-    },
-    Run {
-        fails: [4, 0, 0],
-        calls: "abc=synced -abc=fault scan=abc",
-    },
-    // A fault of the stage, of the list and of the read is answered.
-    Run {
-        fails: [1, 5, 7],
-        calls: "stage=fault abc=synced scan=fault scan=fault",
-    },
-    Run {
-        fails: [0, 0, 0],
-        calls: EACH,
-    },
-];
+    let gone = "abc=synced abd=synced scan=abd,abc -abc=synced -abd=synced scan=-abd,-abc";
+    check_run(alloc, &rt, &[], gone);
+}
+
+#[test]
+fn a_call_that_fails_changes_nothing(rt: HostRuntime) {
+    let alloc = rt.alloc();
+    check_run(alloc, &rt, &[2], "abc=fault scan=");
+    check_run(alloc, &rt, &[4], "abc=synced -abc=fault scan=abc");
+    // A fault of the stage, of the list and of the read.
+    let faults = "stage=fault abc=synced scan=fault scan=fault";
+    check_run(alloc, &rt, &[1, 5, 7], faults);
+}
 
 /// Each call once: `abd` isn't there.
 const EACH: &str = "stage=done abc=synced scan=abc -abd=synced scan= -abc=synced scan=-abc";
-
-#[test]
-fn calls_answer_by_what_stands(rt: HostRuntime) {
-    let alloc = rt.alloc();
-    for run in &RUNS {
-        let mut dir = failing(alloc, &rt, &run.fails);
-        check_calls(alloc, &rt, &mut dir, &mut Stamps::new(alloc), run.calls);
-    }
-}
 
 fn untold(alloc: Global) -> UntoldDir {
     UntoldDir::new(MemoryDir::new(alloc), Reads::Whole)
 }
 
+fn steady(alloc: Global) -> SteadyDir
+    ensures { HoldsUnits sha_name result.moves }
+{
+    laws::an_empty_directory_holds_units();
+    SteadyDir::new(alloc)
+}
+
 #[test]
 fn each_directory_answers_each_call(rt: HostRuntime) {
     let alloc = rt.alloc();
-    laws::an_empty_directory_holds_units();
-    check_calls(
-        alloc,
-        &rt,
-        &mut SteadyDir::new(alloc),
-        &mut Stamps::new(alloc),
-        EACH,
-    );
-    check_calls(
-        alloc,
-        &rt,
-        &mut untold(alloc),
-        &mut Stamps::new(alloc),
-        EACH,
-    );
+    check_run(alloc, &rt, &[], EACH);
+    let mut dir = steady(alloc);
+    check_calls(alloc, &rt, &mut dir, &mut Stamps::new(alloc), EACH);
+    let mut dir = untold(alloc);
+    check_calls(alloc, &rt, &mut dir, &mut Stamps::new(alloc), EACH);
 }
 
-/// Checks which file a crash leaves under the name of `abc`, `-` for none.
+/// Which file stands under the name of `abc`, `-` for none.
+fn file_at<D: Dir>(alloc: Global, rt: &impl Abort, dir: &mut D) -> &'static str {
+    let found = dir.read(alloc, Area::Units, abc(rt)).expect(rt, "a read");
+    let Some(bytes) = found else {
+        return "-";
+    };
+    if bytes.as_slice() == file_of(alloc, rt, "abc").as_slice() {
+        return "abc";
+    }
+    if bytes.as_slice() == file_of(alloc, rt, "abcN").as_slice() {
+        return "abcN";
+    }
+    "other bytes"
+}
+
+/// Checks which file a crash leaves under the name of `abc`.
 fn check_left(alloc: Global, rt: &impl Abort, dir: &MemoryDir, pick: Pick, want: &str) {
     let mut left = dir.stopped(alloc, pick).expect(rt, "memory");
-    let found = left
-        .read(alloc, Area::Units, name_of(rt, "abc"))
-        .expect(rt, "a read");
-    match found {
-        Some(bytes) => assert!(rt; bytes.as_slice() == file_of(alloc, rt, want).as_slice()),
-        None => assert_eq!(rt; want, "-", "at {pick:?}"),
-    }
+    assert_eq!(rt; file_at(alloc, rt, &mut left), want);
 }
 
 /// What crashes leave at the oldest pick, and at later ones.
@@ -384,48 +356,35 @@ fn a_file_that_reads_wrongly_is_lost_or_damaged(rt: HostRuntime) {
     check_wrong_read(alloc, &rt, Reads::ByteLess, "scan=damaged");
 }
 
-/// The file of `abd` stands at the name of `abc`.
+/// Puts the file of `abd` at the name of `abc`.
+fn misplace<D: Dir>(alloc: Global, rt: &impl Abort, dir: &mut D) -> &'static str {
+    let unit = unit_of(alloc, rt, "abd");
+    stage_unit(alloc, dir, 0, &unit).expect(rt, "a stage");
+    dir.reserve(alloc, 2).expect(rt, "room");
+    answered(publish_unit(dir, 0, abc(rt)))
+}
+
 #[test]
 fn a_unit_of_another_name_is_damaged(rt: HostRuntime) {
     let alloc = rt.alloc();
     let mut dir = untold(alloc);
     let mut known = Stamps::new(alloc);
     check_calls(alloc, &rt, &mut dir, &mut known, "abd=synced");
-    let unit = unit_of(alloc, &rt, "abd");
-    stage_unit(alloc, &mut dir, 0, &unit).expect(&rt, "a stage");
-    dir.reserve(alloc, 2).expect(&rt, "room");
-    assert_eq!(rt;
-        answered(publish_unit(&mut dir, 0, name_of(&rt, "abc"))),
-        "synced"
-    );
+    assert_eq!(rt; misplace(alloc, &rt, &mut dir), "synced");
     check_calls(alloc, &rt, &mut dir, &mut known, "scan=damaged");
 }
 
 #[test]
-fn errors_have_texts(rt: HostRuntime) -> Result<(), Fail> {
-    let alloc = rt.alloc();
+fn errors_have_texts(rt: HostRuntime) {
     let name = FileName::read(b"ab").expect(&rt, "a name");
-    let stages = [
-        (StageError::Fault, "the directory failed"),
-        (StageError::Memory, "memory"),
-    ];
-    for (error, want) in stages {
-        assert_eq!(rt; format!(in alloc; "{error}")?.as_str(), want);
-    }
-    let scans = [
-        (ScanError::Fault, "the directory failed"),
-        (
-            ScanError::Lost { name },
-            "no unit file \"ab\", which was listed",
-        ),
-        (
-            ScanError::Damaged { name },
-            "the file \"ab\" isn't that of a unit of this name",
-        ),
-        (ScanError::Memory, "memory"),
-    ];
-    for (error, want) in scans {
-        assert_eq!(rt; format!(in alloc; "{error}")?.as_str(), want);
-    }
-    Ok(())
+    let [fault, memory] = [StageError::Fault, StageError::Memory];
+    let stages = format!(in rt.alloc(); "{fault}, {memory}").expect(&rt, "memory");
+    assert_eq!(rt; stages.as_str(), "the directory failed, memory");
+    let [fault, memory] = [ScanError::Fault, ScanError::Memory];
+    let [lost, damaged] = [ScanError::Lost { name }, ScanError::Damaged { name }];
+    let scans = format!(in rt.alloc(); "{fault}, {lost}, {damaged}, {memory}");
+    assert_eq!(rt;
+        scans.expect(&rt, "memory").as_str(),
+        "the directory failed, no unit file \"ab\", which was listed, the file \"ab\" isn't that of a unit of this name, memory"
+    );
 }

@@ -1,12 +1,13 @@
 //! What follows of moves and of what a crash may leave. A caller's proof gets a law by calling its function, which does nothing.
-ghost use Rattle.std.specs.Prelude.{◌≡◌, ◌↔◌, ◌⊎◌, ℕ, ◌≤◌, List, [], ◌∷◌, ◌++◌, length, map, take, drop, slice_get, if◌then◌else◌, Bool, true, false, IsTrue, ◌&&◌, Option, None, Some, is_some, Result, Ok, Err, Contains};
+ghost use Rattle.std.specs.Prelude.{◌≡◌, ◌≢◌, ◌↔◌, ◌⊎◌, ℕ, ◌≤◌, List, [], ◌∷◌, ◌++◌, length, map, take, drop, slice_get, if◌then◌else◌, Bool, true, false, IsTrue, ◌&&◌, Option, None, Some, is_some, Result, Ok, Err, Contains};
 ghost use Rattle.std.specs.FinMap.{get};
 ghost use Rattle.std.specs.List.{list_any};
 ghost use Rattle.ix_dir.specs.declared.area.Area.{Area};
 ghost use Rattle.ix_dir.specs.declared.area.Area.TheVariants.{Units, Records};
 ghost use Rattle.ix_dir.specs.declared.dir.DirError.{DirError};
 ghost use Rattle.ix_dir.specs.Calls.{with_move, Renames, removed, moves_removed, is_find};
-ghost use Rattle.ix_dir.specs.Crash.{IsSettledIn, standing};
+ghost use Rattle.ix_dir.specs.Crash.{IsPicked, IsSettled, IsSettledIn, names_since, standing, value_for};
+ghost use Rattle.ix_dir.specs.declared.pick.Pick.{Pick};
 ghost use Rattle.ix_dir.specs.Files.{File, Files, Contents, bytes_at, stamp_at, contents_of, listed_of, IsRising};
 ghost use Rattle.ix_dir.specs.declared.dir.Listed.{Listed};
 ghost use Rattle.ix_dir.specs.Images.{Value, values_of, values_step, last_alone, Image, IsImage, IsImageIn};
@@ -166,6 +167,14 @@ pub fn own_value_is_added()
 /// Where nothing of an area is pending, a crash leaves there what stands.
 pub fn settled_area_leaves_what_stands()
     ensures { (moves : List Move) (area : Area) (image : Image) (name : List ℕ) → IsSettledIn area moves → IsImage moves image → get (image area) name ≡ bytes_at (area_after moves area) name }
+{}
+
+/// What a pick leaves: each name that was there since the last sync has the value that the pick chooses for its number, and no other name
+/// has a file. Where nothing is pending, nothing is in either area.
+pub fn a_pick_leaves_these()
+    ensures names { (pick : Pick) (moves left : List Move) (area : Area) (i : ℕ) (name : List ℕ) → IsPicked pick moves left → slice_get (names_since moves area) i ≡ Some name → bytes_at (area_after left area) name ≡ value_for pick i (values_of moves area name) }
+    ensures others { (pick : Pick) (moves left : List Move) (area : Area) (name : List ℕ) → IsPicked pick moves left → ((i : ℕ) → slice_get (names_since moves area) i ≢ Some name) → bytes_at (area_after left area) name ≡ None }
+    ensures settled { (moves : List Move) (area : Area) → IsSettled moves → IsSettledIn area moves }
 {}
 
 /// What happens in one area leaves nothing pending in the other, where nothing was.

@@ -11,3 +11,6 @@ returns-clause-spelled c files put bytes at is = subst (λ b. UnitSpelling b put
 
 pub returns-clause-file : goal.returns-clause-file
 returns-clause-file c name_of put bytes named spelled = record { unit = put.unit.value; spelled = spelled; named = named.named }
+
+pub returns-clause-valid : goal.returns-clause-valid
+returns-clause-valid c name_of put named = named.valid
