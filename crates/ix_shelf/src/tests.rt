@@ -8,7 +8,6 @@ use ix_record::{Body, decode, encode};
 use ix_types::{Failed, FileName, Naming, Seq, Sha};
 use std::alloc::Global;
 use std::process::Abort;
-use std::test::Fail;
 
 /// A record of one symbol with one occurrence, in line 1.
 const RECORD: [u8; 58] = [
@@ -172,109 +171,55 @@ fn check_calls<D: Dir>(
     }
 }
 
-/// Calls over a directory in memory.
-#[derive(Clone, Copy)]
-struct Run {
-    /// The line of the record that stands under the name at first, 0 for none.
-    there: u8,
-    /// The numbers of the calls of the directory that fail, 0 for none.
-    fails: [u64; 2],
-    calls: &'static str,
+/// Makes the calls over a directory in memory whose calls of these numbers fail. The record stands there in this line at first, 0 for none.
+fn check_run(alloc: Global, rt: &impl Abort, line: u8, fails: &[u64], calls: &str) {
+    let fails = Vec::from_slice(alloc, fails).expect(rt, "memory");
+    let mut dir = MemoryDir::failing(alloc, Seq::of(fails));
+    if line > 0 {
+        let bytes = record_in(alloc, rt, line);
+        let placed = dir.place(alloc, Area::Records, name(rt), &bytes);
+        placed.expect(rt, "memory");
+    }
+    check_calls(alloc, rt, &mut Shelf::new(), &mut dir, calls);
 }
 
-const RUNS: [Run; 14] = [
-    // A put that failed is put again; the ninth call is the one sync.
-    Run {
-        there: 0,
-        fails: [3, 10],
-        calls: "keep=fault records=none keep=written keep=shared settle=done settle=done units=fault",
-    },
-    // How many calls a put makes, by what stands there.
-    Run {
-        there: 0,
-        fails: [4, 0],
-        calls: "put=written units=fault line=1",
-    },
-    Run {
-        there: 0,
-        fails: [4, 0],
-        calls: "keep=written units=fault line=1",
-    },
-    Run {
-        there: 1,
-        fails: [2, 0],
-        calls: "put=shared units=fault line=1",
-    },
-    Run {
-        there: 1,
-        fails: [2, 0],
-        calls: "keep=shared units=fault line=1",
-    },
-    Run {
-        there: 2,
-        fails: [4, 0],
-        calls: "put=written units=fault line=1",
-    },
-    Run {
-        there: 2,
-        fails: [2, 0],
-        calls: "keep=clash units=fault line=2",
-    },
-    // A fault of a put leaves the areas.
-    Run {
-        there: 2,
-        fails: [1, 0],
-        calls: "put=fault line=2 records=some units=none",
-    },
-    Run {
-        there: 2,
-        fails: [2, 0],
-        calls: "put=fault line=2 records=some units=none",
-    },
-    Run {
-        there: 2,
-        fails: [3, 0],
-        calls: "put=fault line=2 records=some units=none",
-    },
-    // A load, a settle and a removal are one call, and a settle of a new shelf is none.
-    Run {
-        there: 0,
-        fails: [5, 0],
-        calls: "load=loaded units=fault",
-    },
-    Run {
-        there: 0,
-        fails: [5, 0],
-        calls: "put=written settle=done units=fault",
-    },
-    Run {
-        there: 0,
-        fails: [5, 0],
-        calls: "put=written remove=done units=fault line=none",
-    },
-    Run {
-        there: 0,
-        fails: [1, 0],
-        calls: "settle=done units=fault",
-    },
-];
-
-fn check_run(alloc: Global, rt: &impl Abort, run: &Run) {
-    let fails = Vec::from_slice(alloc, &run.fails).expect(rt, "memory");
-    let mut dir = MemoryDir::failing(alloc, Seq::of(fails));
-    if run.there > 0 {
-        let bytes = record_in(alloc, rt, run.there);
-        dir.place(alloc, Area::Records, name(rt), &bytes)
-            .expect(rt, "memory");
-    }
-    check_calls(alloc, rt, &mut Shelf::new(), &mut dir, run.calls);
+/// The ninth call is the one sync.
+#[test]
+fn a_put_that_failed_is_put_again(rt: HostRuntime) {
+    let calls =
+        "keep=fault records=none keep=written keep=shared settle=done settle=done units=fault";
+    check_run(rt.alloc(), &rt, 0, &[3, 10], calls);
 }
 
 #[test]
-fn calls_answer_by_what_stands(rt: HostRuntime) {
-    for run in &RUNS {
-        check_run(rt.alloc(), &rt, run);
+fn a_put_calls_by_what_stands(rt: HostRuntime) {
+    let alloc = rt.alloc();
+    check_run(alloc, &rt, 0, &[4], "put=written units=fault line=1");
+    check_run(alloc, &rt, 0, &[4], "keep=written units=fault line=1");
+    check_run(alloc, &rt, 1, &[2], "put=shared units=fault line=1");
+    check_run(alloc, &rt, 1, &[2], "keep=shared units=fault line=1");
+    check_run(alloc, &rt, 2, &[4], "put=written units=fault line=1");
+    check_run(alloc, &rt, 2, &[2], "keep=clash units=fault line=2");
+}
+
+#[test]
+fn a_fault_of_a_put_leaves_the_areas(rt: HostRuntime) {
+    let alloc = rt.alloc();
+    for number in 1..4 {
+        let calls = "put=fault line=2 records=some units=none";
+        check_run(alloc, &rt, 2, &[number], calls);
     }
+}
+
+/// A settle of a new shelf is no call.
+#[test]
+fn a_load_a_settle_and_a_removal_are_one_call(rt: HostRuntime) {
+    let alloc = rt.alloc();
+    check_run(alloc, &rt, 0, &[5], "load=loaded units=fault");
+    check_run(alloc, &rt, 0, &[5], "put=written settle=done units=fault");
+    let removed = "put=written remove=done units=fault line=none";
+    check_run(alloc, &rt, 0, &[5], removed);
+    check_run(alloc, &rt, 0, &[1], "settle=done units=fault");
 }
 
 /// Each call once.
@@ -369,31 +314,20 @@ fn a_record_is_lost_or_damaged(rt: HostRuntime) {
 }
 
 #[test]
-fn errors_have_texts(rt: HostRuntime) -> Result<(), Fail> {
-    let alloc = rt.alloc();
+fn errors_have_texts(rt: HostRuntime) {
     let name = FileName::read(b"ab").expect(&rt, "a name");
-    let puts = [
-        (PutError::Fault, "the directory failed"),
-        (
-            PutError::Clash { name },
-            "other bytes stand under the protected name \"ab\"",
-        ),
-        (PutError::Memory, "memory"),
-    ];
-    for (error, want) in puts {
-        assert_eq!(rt; format!(in alloc; "{error}")?.as_str(), want);
-    }
-    let loads = [
-        (LoadError::Fault, "the directory failed"),
-        (LoadError::Lost { name }, "no record file \"ab\""),
-        (
-            LoadError::Damaged { name },
-            "the record file \"ab\" isn't what its name says",
-        ),
-        (LoadError::Memory, "memory"),
-    ];
-    for (error, want) in loads {
-        assert_eq!(rt; format!(in alloc; "{error}")?.as_str(), want);
-    }
-    Ok(())
+    let [fault, memory] = [PutError::Fault, PutError::Memory];
+    let clash = PutError::Clash { name };
+    let puts = format!(in rt.alloc(); "{fault}, {clash}, {memory}").expect(&rt, "memory");
+    assert_eq!(rt;
+        puts.as_str(),
+        "the directory failed, other bytes stand under the protected name \"ab\", memory"
+    );
+    let [fault, memory] = [LoadError::Fault, LoadError::Memory];
+    let [lost, damaged] = [LoadError::Lost { name }, LoadError::Damaged { name }];
+    let loads = format!(in rt.alloc(); "{fault}, {lost}, {damaged}, {memory}");
+    assert_eq!(rt;
+        loads.expect(&rt, "memory").as_str(),
+        "the directory failed, no record file \"ab\", the record file \"ab\" isn't what its name says, memory"
+    );
 }
