@@ -1,8 +1,8 @@
+//! Worked records, each fault, and large records. A test ends where a call goes wrong.
 use super::*;
-use ix_types::Memory;
 use ix_wire::put_u32;
 use std::alloc::Global;
-use std::test::*;
+use std::process::Abort;
 
 /// A record of one symbol and one occurrence, in format One.
 const ONE: &str =
@@ -85,145 +85,137 @@ const FAULTS_OF_TWO: &str = "\
 000000010000000100000008000000000000000200000000 | 00000002000000010000000800000000000000020000000000000001000000070000000000000002000000010000200000000000 | roles missing at byte 80
 0000000100000006 | 0000000200000006000000640000000000000005733a314d410000000140000000062473314d415600000006 | out of order at byte 44";
 
-/// The fault of the bytes in words; nothing where they are a record.
-fn fault(alloc: Global, digits: &str) -> Result<String, Fail> {
-    let bytes = hex::decode(alloc, digits.as_bytes())?;
-    match decode(alloc, bytes.as_slice()) {
-        Ok(_) => Ok(String::new(alloc)),
-        Err(fault) => Ok(fault.to_string(alloc)?),
-    }
+fn bytes_of(alloc: Global, rt: &impl Abort, digits: &str) -> Vec<u8> {
+    hex::decode(alloc, digits.as_bytes()).expect(rt, "hex digits")
 }
 
-/// Whether the digits, changed as the line says, have the line's fault.
-fn has_fault(alloc: Global, digits: &str, line: &str) -> Result<bool, Fail> {
-    let (old, change) = line.split_once(" | ").ok_or("no change")?;
-    let (new, want) = change.split_once(" | ").ok_or("no fault")?;
-    let (front, back) = digits.split_once(old).ok_or("no such part")?;
-    let changed = format!(in alloc; "{front}{new}{back}")?;
-    let fault = fault(alloc, changed.as_str())?;
-    Ok(fault.as_str() == want)
+/// Checks that the bytes are a record that is spelled so again.
+fn check_spelling(alloc: Global, rt: &impl Abort, bytes: &[u8]) {
+    let value = decode(alloc, bytes).expect(rt, "a record");
+    let again = encode(alloc, &value).expect(rt, "bytes");
+    assert!(rt; again.as_slice() == bytes);
 }
 
-/// Whether the bytes are a record that is spelled so again.
-fn is_spelled_again(alloc: Global, bytes: &[u8]) -> bool {
-    let Ok(value) = decode(alloc, bytes) else {
-        return false;
-    };
-    match encode(alloc, &value) {
-        Ok(again) => again.as_slice() == bytes,
-        Err(_) => false,
-    }
-}
-
-/// Whether each proper front of the bytes is short.
-fn fronts_are_short(alloc: Global, bytes: &[u8]) -> bool {
+/// Checks that each proper front of the bytes is short.
+fn check_fronts(alloc: Global, rt: &impl Abort, bytes: &[u8]) {
     for len in 0..bytes.len() {
-        if decode(alloc, &bytes[..len]).err() != Some(RecordError::Short) {
-            return false;
-        }
+        assert!(rt; decode(alloc, &bytes[..len]).err() == Some(RecordError::Short));
     }
-    true
+}
+
+fn check_record(alloc: Global, rt: &impl Abort, digits: &str) {
+    let bytes = bytes_of(alloc, rt, digits);
+    check_spelling(alloc, rt, &bytes);
+    check_fronts(alloc, rt, &bytes);
 }
 
 #[test]
-fn worked_records_are_read_and_written(rt: HostRuntime) -> Result<(), Fail> {
-    for digits in [ONE, TWO, CODEGEN, RELATIONS] {
-        let bytes = hex::decode(rt.alloc(), digits.as_bytes())?;
-        assert!(rt; is_spelled_again(rt.alloc(), bytes.as_slice()), "{digits}");
-        assert!(rt; fronts_are_short(rt.alloc(), bytes.as_slice()), "{digits}");
-    }
-    Ok(())
+fn worked_records_are_read_and_written(rt: HostRuntime) {
+    check_record(rt.alloc(), &rt, ONE);
+    check_record(rt.alloc(), &rt, TWO);
+    check_record(rt.alloc(), &rt, CODEGEN);
+    check_record(rt.alloc(), &rt, RELATIONS);
 }
 
 #[test]
-fn a_record_has_its_values(rt: HostRuntime) -> Result<(), Fail> {
-    let bytes = hex::decode(rt.alloc(), CODEGEN.as_bytes())?;
-    let value = decode(rt.alloc(), bytes.as_slice())?;
-    let printed = format!(in rt.alloc(); "{value:?}")?;
-    assert_eq!(rt; printed.as_str(), VALUE);
-    Ok(())
+fn a_record_has_its_values(rt: HostRuntime) {
+    let bytes = bytes_of(rt.alloc(), &rt, CODEGEN);
+    let value = decode(rt.alloc(), &bytes).expect(&rt, "a record");
+    let printed = format!(in rt.alloc(); "{value:?}").expect(&rt, "memory");
+    assert!(rt; printed.as_str() == VALUE);
+}
+
+fn check_words(alloc: Global, rt: &impl Abort, fault: RecordError, want: &str) {
+    let words = fault.to_string(alloc).expect(rt, "memory");
+    assert!(rt; words.as_str() == want, "{want}");
+}
+
+/// Checks that the digits, changed as the line says, have the line's fault.
+fn check_fault(alloc: Global, rt: &impl Abort, digits: &str, line: &str) {
+    let (old, change) = line.split_once(" | ").expect(rt, "a change");
+    let (new, want) = change.split_once(" | ").expect(rt, "a fault");
+    let (front, back) = digits.split_once(old).expect(rt, "such a part");
+    let changed = format!(in alloc; "{front}{new}{back}").expect(rt, "memory");
+    let bytes = bytes_of(alloc, rt, changed.as_str());
+    let fault = decode(alloc, &bytes).err().expect(rt, "a fault");
+    check_words(alloc, rt, fault, want);
+}
+
+fn check_faults(alloc: Global, rt: &impl Abort, digits: &str, faults: &str) {
+    for line in faults.lines() {
+        check_fault(alloc, rt, digits, line);
+    }
 }
 
 #[test]
-fn each_fault_is_the_first(rt: HostRuntime) -> Result<(), Fail> {
-    for line in FAULTS_OF_ONE.lines() {
-        assert!(rt; has_fault(rt.alloc(), ONE, line)?, "{line}");
-    }
-    for line in FAULTS_OF_TWO.lines() {
-        assert!(rt; has_fault(rt.alloc(), CODEGEN, line)?, "{line}");
-    }
-    Ok(())
-}
-
-#[test]
-fn memory_is_named(rt: HostRuntime) -> Result<(), Fail> {
-    assert_eq!(rt;
-        RecordError::Memory.to_string(rt.alloc())?.as_str(),
-        "memory"
-    );
-    Ok(())
+fn each_fault_is_the_first(rt: HostRuntime) {
+    check_faults(rt.alloc(), &rt, ONE, FAULTS_OF_ONE);
+    check_faults(rt.alloc(), &rt, CODEGEN, FAULTS_OF_TWO);
+    check_words(rt.alloc(), &rt, RecordError::Memory, "memory");
 }
 
 /// Appends the numbers, each as four bytes.
-fn put_numbers(out: &mut Vec<u8>, numbers: &[u32]) -> Result<(), Memory> {
+fn put_numbers(rt: &impl Abort, out: &mut Vec<u8>, numbers: &[u32]) {
     for number in numbers {
-        put_u32(out, *number)?;
+        put_u32(out, *number).expect(rt, "memory");
     }
-    Ok(())
 }
 
-/// Appends a symbol whose USR is the low half of the number in four letters, and the texts behind it.
-fn put_symbol(out: &mut Vec<u8>, number: u32, texts: &[u8]) -> Result<(), Memory> {
-    let [_, _, high, low] = number.to_be_bytes();
-    put_numbers(out, &[12, 2, 0, 4])?;
-    out.extend_from_slice(&[64 | high >> 4, 64 | high & 15, 64 | low >> 4, 64 | low & 15])?;
-    out.extend_from_slice(texts)?;
-    Ok(())
-}
-
-/// A record with so many symbols, each with one occurrence in a line of its own.
-fn many(alloc: Global, magic: &[u8], texts: &[u8], count: u32) -> Result<Vec<u8>, Memory> {
-    let mut out = Vec::from_slice(alloc, magic)?;
-    put_u32(&mut out, count)?;
+/// Appends so many symbols, each with the low half of its number in four letters as its USR, and with the texts behind it.
+fn put_symbols(rt: &impl Abort, out: &mut Vec<u8>, texts: &[u32], count: u32) {
     for number in 0..count {
-        put_symbol(&mut out, number, texts)?;
+        let letters = (number & 0xf000) << 12
+            | (number & 0xf00) << 8
+            | (number & 0xf0) << 4
+            | number & 15;
+        put_numbers(rt, out, &[12, 2, 0, 4, 0x4040_4040 | letters]);
+        put_numbers(rt, out, texts);
     }
-    put_u32(&mut out, count)?;
-    for number in 0..count {
-        put_numbers(&mut out, &[number + 1, 1, number, 2, 0])?;
-    }
-    Ok(out)
 }
 
-/// A record of one symbol and an occurrence with so many relations to it.
-fn related(alloc: Global, front: &[u8], count: u32) -> Result<Vec<u8>, Memory> {
-    let mut out = Vec::from_slice(alloc, front)?;
-    put_numbers(&mut out, &[1, 8, 0, 523_778, count])?;
+/// Appends an occurrence for each symbol, in a line of its own.
+fn put_occurrences(rt: &impl Abort, out: &mut Vec<u8>, count: u32) {
+    for number in 0..count {
+        put_numbers(rt, out, &[number + 1, 1, number, 2, 0]);
+    }
+}
+
+/// Checks a record with 65,536 symbols and occurrences.
+fn check_many(alloc: Global, rt: &impl Abort, magic: u32, texts: &[u32]) {
+    let mut out = Vec::new(alloc);
+    put_numbers(rt, &mut out, &[magic, 65_536]);
+    put_symbols(rt, &mut out, texts, 65_536);
+    put_numbers(rt, &mut out, &[65_536]);
+    put_occurrences(rt, &mut out, 65_536);
+    check_spelling(alloc, rt, &out);
+}
+
+#[test]
+fn a_large_record_of_format_one_is_read_and_written(rt: HostRuntime) {
+    check_many(rt.alloc(), &rt, 0x4958_5231, &[0]);
+}
+
+#[test]
+fn a_large_record_of_format_two_is_read_and_written(rt: HostRuntime) {
+    check_many(
+        rt.alloc(),
+        &rt,
+        0x4958_5232,
+        &[4, 0x6162_6364, 4, 0x6566_6768],
+    );
+}
+
+/// Appends so many relations to the first symbol.
+fn put_relations(rt: &impl Abort, out: &mut Vec<u8>, count: u32) {
     for number in 1..=count {
-        put_numbers(&mut out, &[number << 9, 0])?;
+        put_numbers(rt, out, &[number << 9, 0]);
     }
-    Ok(out)
 }
 
 #[test]
-fn a_large_record_of_format_one_is_read_and_written(rt: HostRuntime) -> Result<(), Fail> {
-    let bytes = many(rt.alloc(), b"IXR1", &[0, 0, 0, 0], 65_536)?;
-    assert!(rt; is_spelled_again(rt.alloc(), bytes.as_slice()));
-    Ok(())
-}
-
-#[test]
-fn a_large_record_of_format_two_is_read_and_written(rt: HostRuntime) -> Result<(), Fail> {
-    let texts = [0u8, 0, 0, 1, 97, 0, 0, 0, 1, 98];
-    let bytes = many(rt.alloc(), b"IXR2", texts.as_slice(), 65_536)?;
-    assert!(rt; is_spelled_again(rt.alloc(), bytes.as_slice()));
-    Ok(())
-}
-
-#[test]
-fn many_relations_are_read_and_written(rt: HostRuntime) -> Result<(), Fail> {
-    let front = hex::decode(rt.alloc(), ONE.split_at(76).0.as_bytes())?;
-    let bytes = related(rt.alloc(), front.as_slice(), 256)?;
-    assert!(rt; is_spelled_again(rt.alloc(), bytes.as_slice()));
-    Ok(())
+fn many_relations_are_read_and_written(rt: HostRuntime) {
+    let mut out = bytes_of(rt.alloc(), &rt, ONE.split_at(76).0);
+    put_numbers(&rt, &mut out, &[1, 8, 0, 523_778, 256]);
+    put_relations(&rt, &mut out, 256);
+    check_spelling(rt.alloc(), &rt, &out);
 }

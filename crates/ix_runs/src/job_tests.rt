@@ -1,219 +1,255 @@
-//! What described jobs store, each value worked out by hand.
+//! What described jobs store, each value worked out by hand. A test ends where a call goes wrong.
 use super::*;
-use ix_record::{Occurrence, RecordValue, Relation, Symbol};
+use ix_record::{Occurrence, Symbol};
 use ix_script::{
     FilePlan, IncludePlan, OccurrencePlan, RecordPlan, RelationPlan, SymbolPlan, UnitPlan,
 };
 use ix_types::{FileName, Format, Kind, Lang, Props, Roles, Seq, Text};
-use ix_unit::{FileDep, Include, RecordDep, UnitValue};
+use ix_unit::{RecordDep, UnitValue};
 use std::alloc::Global;
-use std::test::Fail;
+use std::process::Abort;
+use std::str::SplitWhitespace;
 
-/// An occurrence: line, column, USR, roles, and relations of a USR and its roles.
-type Planned = (u32, u32, &'static str, u32, &'static [(&'static str, u32)]);
+/// Occurrences: line, column, USR, roles, and relations of a USR and its roles. Out of order, one of them twice, one of a USR that no
+/// symbol has, and one with such a relation.
+const PLANNED: &str = "\
+3 12 c:F 36 s:M=73728 s:C=512 s:C=512
+2 17 s:M 2 s:C=512 none=2048
+1 15 s:C 4
+1 7 none 2
+1 15 s:C 4";
 
-/// An occurrence as stored: line, column, index, roles, and relations of an index and its roles.
-type Stored = (u32, u32, u32, u32, &'static [(u32, u32)]);
+/// The symbols rise by USR. The roles of an occurrence gain those of its relations, also of one that is left out.
+const SYMBOLS: &str =
+    r#"Symbol { kind: Kind { code: 6 }, lang: Lang { code: 100 }, props: Props { bits: 5 }, usr: "c:F", name: "name of c:F", codegen: "" }
+Symbol { kind: Kind { code: 6 }, lang: Lang { code: 100 }, props: Props { bits: 5 }, usr: "s:C", name: "name of s:C", codegen: "c" }
+Symbol { kind: Kind { code: 6 }, lang: Lang { code: 100 }, props: Props { bits: 5 }, usr: "s:M", name: "name of s:M", codegen: "m" }"#;
 
-/// Out of order, one of them twice, one of a USR that no symbol has, and one with such a relation.
-const PLANNED: [Planned; 5] = [
-    (
-        3,
-        12,
-        "c:F",
-        36,
-        &[("s:M", 73_728), ("s:C", 512), ("s:C", 512)],
-    ),
-    (2, 17, "s:M", 2, &[("s:C", 512), ("none", 2048)]),
-    (1, 15, "s:C", 4, &[]),
-    (1, 7, "none", 2, &[]),
-    (1, 15, "s:C", 4, &[]),
-];
+/// Line, column, index, roles and relations.
+const OCCURRENCES: &str = "\
+1 15 1 4 []
+2 17 2 2562 [Relation { symbol: 1, roles: Roles { bits: 512 } }]
+3 12 0 74276 [Relation { symbol: 1, roles: Roles { bits: 512 } }, Relation { symbol: 2, roles: Roles { bits: 73728 } }]";
 
-/// The roles of an occurrence gain those of its relations, also of one that is left out. The symbols are c:F, s:C and s:M.
-const STORED: [Stored; 3] = [
-    (1, 15, 1, 4, &[]),
-    (2, 17, 2, 2562, &[(1, 512)]),
-    (3, 12, 0, 74_276, &[(1, 512), (2, 73_728)]),
-];
+/// The lists of a unit, sorted and without repeats.
+const LISTS: &str = r#"["/o/a", "/o/b"]
+[RecordDep { path: "Circle.swift", system: true, name: "0f" }]
+[FileDep { path: "a.h", system: false }, FileDep { path: "a.h", system: true }, FileDep { path: "z.h", system: false }]
+[Include { from: "a", line: 1, to: "e" }, Include { from: "a", line: 2, to: "d" }, Include { from: "b", line: 1, to: "c" }]"#;
 
-fn text(alloc: Global, text: &str) -> Result<Text, Fail> {
-    Ok(Text::read_or_empty(alloc, text.as_bytes())?)
+fn text(alloc: Global, rt: &impl Abort, text: &str) -> Text {
+    Text::read_or_empty(alloc, text.as_bytes()).expect(rt, "a text")
 }
 
-fn roles(bits: u32) -> Result<Roles, Fail> {
-    Ok(Roles::new(bits).ok_or("roles")?)
+fn word<'a>(rt: &impl Abort, words: &mut SplitWhitespace<'a>) -> &'a str {
+    words.next().expect(rt, "a word")
 }
 
-fn planned_symbol(alloc: Global, usr: &str, codegen: &str) -> Result<SymbolPlan, Fail> {
-    Ok(SymbolPlan {
-        usr: text(alloc, usr)?,
-        name: text(alloc, "a name")?,
+fn number(rt: &impl Abort, word: &str) -> u32 {
+    word.parse().expect(rt, "a number")
+}
+
+fn roles(rt: &impl Abort, word: &str) -> Roles {
+    Roles::new(number(rt, word)).expect(rt, "roles")
+}
+
+fn symbol(alloc: Global, rt: &impl Abort, word: &str) -> SymbolPlan {
+    let (usr, codegen) = word.split_once('=').expect(rt, "a USR and a name");
+    let name = format!(in alloc; "name of {usr}").expect(rt, "memory");
+    SymbolPlan {
+        usr: text(alloc, rt, usr),
+        name: text(alloc, rt, name.as_str()),
         kind: Kind::STRUCT,
         lang: Lang::SWIFT,
-        props: Props::new(5).ok_or("properties")?,
-        codegen: text(alloc, codegen)?,
-    })
-}
-
-fn stored_symbol(alloc: Global, usr: &str, codegen: &str) -> Result<Symbol, Fail> {
-    Ok(Symbol {
-        kind: Kind::STRUCT,
-        lang: Lang::SWIFT,
-        props: Props::new(5).ok_or("properties")?,
-        usr: text(alloc, usr)?,
-        name: text(alloc, "a name")?,
-        codegen: text(alloc, codegen)?,
-    })
-}
-
-fn planned_occurrence(alloc: Global, planned: Planned) -> Result<OccurrencePlan, Fail> {
-    let (line, col, usr, bits, others) = planned;
-    let mut relations = Vec::new(alloc);
-    for (usr, bits) in others {
-        let usr = text(alloc, usr)?;
-        relations.push(RelationPlan {
-            usr,
-            roles: roles(*bits)?,
-        })?;
+        props: Props::new(5).expect(rt, "properties"),
+        codegen: text(alloc, rt, codegen),
     }
-    Ok(OccurrencePlan {
-        usr: text(alloc, usr)?,
+}
+
+fn symbols(alloc: Global, rt: &impl Abort) -> Seq<SymbolPlan> {
+    let mut symbols = Vec::new(alloc);
+    for word in "s:M=m c:F= s:C=c".split_whitespace() {
+        symbols.push(symbol(alloc, rt, word)).expect(rt, "memory");
+    }
+    Seq::of(symbols)
+}
+
+fn relation(alloc: Global, rt: &impl Abort, word: &str) -> RelationPlan {
+    let (usr, bits) = word.split_once('=').expect(rt, "a USR and roles");
+    let usr = text(alloc, rt, usr);
+    RelationPlan {
+        usr,
+        roles: roles(rt, bits),
+    }
+}
+
+fn relations(alloc: Global, rt: &impl Abort, words: &mut SplitWhitespace<'_>) -> Seq<RelationPlan> {
+    let mut relations = Vec::new(alloc);
+    for word in words {
+        relations
+            .push(relation(alloc, rt, word))
+            .expect(rt, "memory");
+    }
+    Seq::of(relations)
+}
+
+fn occurrence(alloc: Global, rt: &impl Abort, words: &mut SplitWhitespace<'_>) -> OccurrencePlan {
+    let line = number(rt, word(rt, words));
+    let col = number(rt, word(rt, words));
+    let usr = text(alloc, rt, word(rt, words));
+    let roles = roles(rt, word(rt, words));
+    let relations = relations(alloc, rt, words);
+    OccurrencePlan {
+        usr,
         line,
         col,
-        roles: roles(bits)?,
-        relations: Seq::of(relations),
-    })
+        roles,
+        relations,
+    }
 }
 
-fn stored_occurrence(alloc: Global, stored: Stored) -> Result<Occurrence, Fail> {
-    let (line, column, symbol, bits, others) = stored;
-    let mut relations = Vec::new(alloc);
-    for (symbol, bits) in others {
-        relations.push(Relation {
-            symbol: *symbol,
-            roles: roles(*bits)?,
-        })?;
-    }
-    Ok(Occurrence {
-        line,
-        column,
-        symbol,
-        roles: roles(bits)?,
-        relations: Seq::of(relations),
-    })
-}
-
-fn plan(alloc: Global) -> Result<RecordPlan, Fail> {
-    let mut symbols = Vec::new(alloc);
-    for (usr, codegen) in [("s:M", "m"), ("c:F", ""), ("s:C", "c")] {
-        symbols.push(planned_symbol(alloc, usr, codegen)?)?;
-    }
+fn occurrences(alloc: Global, rt: &impl Abort) -> Seq<OccurrencePlan> {
     let mut occurrences = Vec::new(alloc);
-    for planned in PLANNED {
-        occurrences.push(planned_occurrence(alloc, planned)?)?;
+    for line in PLANNED.lines() {
+        let occurrence = occurrence(alloc, rt, &mut line.split_whitespace());
+        occurrences.push(occurrence).expect(rt, "memory");
     }
-    Ok(RecordPlan {
+    Seq::of(occurrences)
+}
+
+fn record_plan(alloc: Global, rt: &impl Abort) -> RecordPlan {
+    RecordPlan {
         format: Format::Two,
-        path: text(alloc, "Circle.swift")?,
+        path: text(alloc, rt, "Circle.swift"),
         system: false,
-        symbols: Seq::of(symbols),
-        occurrences: Seq::of(occurrences),
-    })
+        symbols: symbols(alloc, rt),
+        occurrences: occurrences(alloc, rt),
+    }
 }
 
-fn value(alloc: Global) -> Result<RecordValue, Fail> {
-    let mut symbols = Vec::new(alloc);
-    for (usr, codegen) in [("c:F", ""), ("s:C", "c"), ("s:M", "m")] {
-        symbols.push(stored_symbol(alloc, usr, codegen)?)?;
+fn check_symbols(alloc: Global, rt: &impl Abort, symbols: &[Symbol]) {
+    let mut lines = SYMBOLS.lines();
+    for symbol in symbols {
+        let shown = format!(in alloc; "{symbol:?}").expect(rt, "memory");
+        assert!(rt; lines.next() == Some(shown.as_str()), "{shown}");
     }
-    let mut occurrences = Vec::new(alloc);
-    for stored in STORED {
-        occurrences.push(stored_occurrence(alloc, stored)?)?;
+    assert!(rt; lines.next().is_none());
+}
+
+fn check_occurrence(alloc: Global, rt: &impl Abort, occurrence: &Occurrence, want: &str) {
+    let place = format!(in alloc;
+        "{} {} {}",
+        occurrence.line, occurrence.column, occurrence.symbol
+    );
+    let place = place.expect(rt, "memory");
+    let shown = format!(in alloc;
+        "{} {} {:?}",
+        place,
+        occurrence.roles.bits(),
+        occurrence.relations
+    );
+    let shown = shown.expect(rt, "memory");
+    assert!(rt; shown.as_str() == want, "{shown}");
+}
+
+fn check_occurrences(alloc: Global, rt: &impl Abort, occurrences: &[Occurrence]) {
+    let mut lines = OCCURRENCES.lines();
+    for occurrence in occurrences {
+        check_occurrence(alloc, rt, occurrence, lines.next().expect(rt, "no more"));
     }
-    Ok(RecordValue {
-        format: Format::Two,
-        symbols: Seq::of(symbols),
-        occurrences: Seq::of(occurrences),
-    })
+    assert!(rt; lines.next().is_none());
 }
 
 #[test]
-fn a_record_is_sorted_and_joined(rt: HostRuntime) -> Result<(), Fail> {
+fn a_record_is_sorted_and_joined(rt: HostRuntime) {
     let alloc = rt.alloc();
-    let made = record_value(alloc, &plan(alloc)?)?;
-    assert!(rt; made == value(alloc)?);
-    Ok(())
+    let value = record_value(alloc, &record_plan(alloc, &rt)).expect(&rt, "a record");
+    assert!(rt; value.format == Format::Two);
+    check_symbols(alloc, &rt, value.symbols.as_slice());
+    check_occurrences(alloc, &rt, value.occurrences.as_slice());
 }
 
-fn texts(alloc: Global, all: &[&str]) -> Result<Seq<Text>, Fail> {
-    let mut texts = Vec::new(alloc);
-    for one in all {
-        texts.push(text(alloc, one)?)?;
+fn units(alloc: Global, rt: &impl Abort) -> Seq<Text> {
+    let mut units = Vec::new(alloc);
+    for word in "/o/b /o/a /o/b".split_whitespace() {
+        units.push(text(alloc, rt, word)).expect(rt, "memory");
     }
-    Ok(Seq::of(texts))
+    Seq::of(units)
+}
+
+/// Files, a system file with a bang.
+fn files(alloc: Global, rt: &impl Abort) -> Seq<FilePlan> {
+    let mut files = Vec::new(alloc);
+    for word in "z.h= a.h=! a.h= a.h=!".split_whitespace() {
+        let (path, system) = word.split_once('=').expect(rt, "a file");
+        let path = text(alloc, rt, path);
+        let system = system == "!";
+        files.push(FilePlan { path, system }).expect(rt, "memory");
+    }
+    Seq::of(files)
+}
+
+fn include(alloc: Global, rt: &impl Abort, words: &mut SplitWhitespace<'_>) -> IncludePlan {
+    let from = text(alloc, rt, word(rt, words));
+    let line = number(rt, word(rt, words));
+    let to = text(alloc, rt, word(rt, words));
+    IncludePlan { from, line, to }
+}
+
+fn includes(alloc: Global, rt: &impl Abort) -> Seq<IncludePlan> {
+    let mut includes = Vec::new(alloc);
+    for line in "b 1 c\na 2 d\na 1 e\nb 1 c".lines() {
+        includes
+            .push(include(alloc, rt, &mut line.split_whitespace()))
+            .expect(rt, "memory");
+    }
+    Seq::of(includes)
 }
 
 /// A unit whose lists are out of order, each with one entry twice.
-fn unit_plan(alloc: Global) -> Result<UnitPlan, Fail> {
-    let mut files = Vec::new(alloc);
-    for (path, system) in [("z.h", false), ("a.h", true), ("a.h", false), ("a.h", true)] {
-        let path = text(alloc, path)?;
-        files.push(FilePlan { path, system })?;
-    }
-    let mut includes = Vec::new(alloc);
-    for (from, line, to) in [("b", 1, "c"), ("a", 2, "d"), ("a", 1, "e"), ("b", 1, "c")] {
-        let (from, to) = (text(alloc, from)?, text(alloc, to)?);
-        includes.push(IncludePlan { from, line, to })?;
-    }
-    Ok(UnitPlan {
-        output: text(alloc, "/o/Circle.o")?,
-        main: text(alloc, "Circle.swift")?,
-        module: text(alloc, "App")?,
+fn unit_plan(alloc: Global, rt: &impl Abort) -> UnitPlan {
+    UnitPlan {
+        output: text(alloc, rt, "/o/Circle.o"),
+        main: text(alloc, rt, "Circle.swift"),
+        module: text(alloc, rt, "App"),
         system: true,
-        units: texts(alloc, &["/o/b", "/o/a", "/o/b"])?,
+        units: units(alloc, rt),
         records: Seq::of(Vec::new(alloc)),
-        files: Seq::of(files),
-        includes: Seq::of(includes),
-    })
+        files: files(alloc, rt),
+        includes: includes(alloc, rt),
+    }
 }
 
-fn record_dep(alloc: Global) -> Result<RecordDep, Fail> {
-    Ok(RecordDep {
-        path: text(alloc, "Circle.swift")?,
+fn record_deps(alloc: Global, rt: &impl Abort) -> Vec<RecordDep> {
+    let mut deps = Vec::new(alloc);
+    let path = text(alloc, rt, "Circle.swift");
+    let name = FileName::read(b"0f").expect(rt, "a name");
+    deps.push(RecordDep {
+        path,
         system: true,
-        name: FileName::read(b"0f").ok_or("a name")?,
+        name,
     })
+    .expect(rt, "memory");
+    deps
 }
 
-fn unit(alloc: Global) -> Result<UnitValue, Fail> {
-    let mut files = Vec::new(alloc);
-    for (path, system) in [("a.h", false), ("a.h", true), ("z.h", false)] {
-        let path = text(alloc, path)?;
-        files.push(FileDep { path, system })?;
-    }
-    let mut includes = Vec::new(alloc);
-    for (from, line, to) in [("a", 1, "e"), ("a", 2, "d"), ("b", 1, "c")] {
-        let (from, to) = (text(alloc, from)?, text(alloc, to)?);
-        includes.push(Include { from, line, to })?;
-    }
-    Ok(UnitValue {
-        output: text(alloc, "/o/Circle.o")?,
-        main_file: text(alloc, "Circle.swift")?,
-        module_name: text(alloc, "App")?,
-        system: true,
-        units: texts(alloc, &["/o/a", "/o/b"])?,
-        records: Seq::of(Vec::from_array(alloc, [record_dep(alloc)?])?),
-        files: Seq::of(files),
-        includes: Seq::of(includes),
-    })
+fn check_lists(alloc: Global, rt: &impl Abort, unit: &UnitValue) {
+    let shown = format!(in alloc;
+        "{:?}\n{:?}\n{:?}\n{:?}",
+        unit.units, unit.records, unit.files, unit.includes
+    );
+    assert!(rt; shown.expect(rt, "memory").as_str() == LISTS);
 }
 
 #[test]
-fn a_unit_has_its_lists_sorted(rt: HostRuntime) -> Result<(), Fail> {
+fn a_unit_has_its_lists_sorted(rt: HostRuntime) {
     let alloc = rt.alloc();
-    let records = Vec::from_array(alloc, [record_dep(alloc)?])?;
-    let made = unit_of(alloc, &unit_plan(alloc)?, records)?;
-    assert!(rt; made == unit(alloc)?);
-    Ok(())
+    let unit = unit_of(alloc, &unit_plan(alloc, &rt), record_deps(alloc, &rt)).expect(
+        &rt, "a unit",
+    );
+    check_lists(alloc, &rt, &unit);
+    assert!(rt; unit.output.bytes() == b"/o/Circle.o".as_slice());
+    assert!(rt; unit.main_file.bytes() == b"Circle.swift".as_slice());
+    assert!(rt; unit.module_name.bytes() == b"App".as_slice());
+    assert!(rt; unit.system);
 }

@@ -1,7 +1,9 @@
+//! A worked unit, each fault, and a full unit. A test ends where a call goes wrong.
 use super::*;
+use ix_wire::put_u32;
 use sha2::{Digest, Sha256};
-use std::alloc::{AllocError, Global};
-use std::test::*;
+use std::alloc::Global;
+use std::process::Abort;
 
 /// A unit of one record and no include.
 const UNIT: &str =
@@ -48,118 +50,94 @@ debcc3 | debcc300 | bytes are left from byte 158 on
 000000010000000200000007612e737769667400000000000000403963343938636164663230313438373966666438306365376638396665616238366132303332653062366231306436373632386530373836323461353633663500000000 | 0000000000000001000000016100000000 | bad field at byte 44
 000000010000000200000007612e737769667400000000000000403963343938636164663230313438373966666438306365376638396665616238366132303332653062366231306436373632386530373836323461353633663500000000 | 000000000000000100000001610000000500000000 | bad field at byte 48";
 
-/// The fault of the bytes in words; nothing where they are a unit.
-fn fault(alloc: Global, digits: &str) -> Result<String, Fail> {
-    let bytes = hex::decode(alloc, digits.as_bytes())?;
-    match decode(alloc, bytes.as_slice()) {
-        Ok(_) => Ok(String::new(alloc)),
-        Err(fault) => Ok(fault.to_string(alloc)?),
-    }
+fn bytes_of(alloc: Global, rt: &impl Abort, digits: &str) -> Vec<u8> {
+    hex::decode(alloc, digits.as_bytes()).expect(rt, "hex digits")
 }
 
-/// Whether the unit, changed as the line says, has the line's fault.
-fn has_fault(alloc: Global, line: &str) -> Result<bool, Fail> {
-    let (old, change) = line.split_once(" | ").ok_or("no change")?;
-    let (new, want) = change.split_once(" | ").ok_or("no fault")?;
-    let (front, back) = UNIT.split_once(old).ok_or("no such part")?;
-    let changed = format!(in alloc; "{front}{new}{back}")?;
-    let fault = fault(alloc, changed.as_str())?;
-    Ok(fault.as_str() == want)
+/// Checks that the bytes are a unit that is spelled so again.
+fn check_spelling(alloc: Global, rt: &impl Abort, bytes: &[u8]) {
+    let value = decode(alloc, bytes).expect(rt, "a unit");
+    let again = encode(alloc, &value).expect(rt, "bytes");
+    assert!(rt; again.as_slice() == bytes);
 }
 
-/// Whether the bytes are a unit that is spelled so again.
-fn is_spelled_again(alloc: Global, bytes: &[u8]) -> bool {
-    let Ok(value) = decode(alloc, bytes) else {
-        return false;
-    };
-    match encode(alloc, &value) {
-        Ok(again) => again.as_slice() == bytes,
-        Err(_) => false,
-    }
-}
-
-/// Whether each proper front of the bytes is short.
-fn fronts_are_short(alloc: Global, bytes: &[u8]) -> bool {
+#[test]
+fn a_unit_is_read_and_written(rt: HostRuntime) {
+    let bytes = bytes_of(rt.alloc(), &rt, UNIT);
+    check_spelling(rt.alloc(), &rt, &bytes);
     for len in 0..bytes.len() {
-        if decode(alloc, &bytes[..len]).err() != Some(UnitError::Short) {
-            return false;
-        }
+        assert!(rt; decode(rt.alloc(), &bytes[..len]).err() == Some(UnitError::Short));
     }
-    true
 }
 
 #[test]
-fn a_unit_is_read_and_written(rt: HostRuntime) -> Result<(), Fail> {
-    let bytes = hex::decode(rt.alloc(), UNIT.as_bytes())?;
-    assert!(rt; is_spelled_again(rt.alloc(), bytes.as_slice()));
-    assert!(rt; fronts_are_short(rt.alloc(), bytes.as_slice()));
-    Ok(())
+fn a_unit_has_its_values(rt: HostRuntime) {
+    let bytes = bytes_of(rt.alloc(), &rt, UNIT);
+    let value = decode(rt.alloc(), &bytes).expect(&rt, "a unit");
+    let printed = format!(in rt.alloc(); "{value:?}").expect(&rt, "memory");
+    assert!(rt; printed.as_str() == VALUE);
+}
+
+fn check_words(alloc: Global, rt: &impl Abort, fault: UnitError, want: &str) {
+    let words = fault.to_string(alloc).expect(rt, "memory");
+    assert!(rt; words.as_str() == want, "{want}");
+}
+
+/// Checks that the unit, changed as the line says, has the line's fault.
+fn check_fault(alloc: Global, rt: &impl Abort, line: &str) {
+    let (old, change) = line.split_once(" | ").expect(rt, "a change");
+    let (new, want) = change.split_once(" | ").expect(rt, "a fault");
+    let (front, back) = UNIT.split_once(old).expect(rt, "such a part");
+    let changed = format!(in alloc; "{front}{new}{back}").expect(rt, "memory");
+    let bytes = bytes_of(alloc, rt, changed.as_str());
+    let fault = decode(alloc, &bytes).err().expect(rt, "a fault");
+    check_words(alloc, rt, fault, want);
 }
 
 #[test]
-fn a_unit_has_its_values(rt: HostRuntime) -> Result<(), Fail> {
-    let bytes = hex::decode(rt.alloc(), UNIT.as_bytes())?;
-    let value = decode(rt.alloc(), bytes.as_slice())?;
-    let printed = format!(in rt.alloc(); "{value:?}")?;
-    assert_eq!(rt; printed.as_str(), VALUE);
-    Ok(())
-}
-
-#[test]
-fn each_fault_is_the_first(rt: HostRuntime) -> Result<(), Fail> {
+fn each_fault_is_the_first(rt: HostRuntime) {
     for line in FAULTS.lines() {
-        assert!(rt; has_fault(rt.alloc(), line)?, "{line}");
+        check_fault(rt.alloc(), &rt, line);
     }
-    assert_eq!(rt; UnitError::Memory.to_string(rt.alloc())?.as_str(), "memory");
-    Ok(())
+    check_words(rt.alloc(), &rt, UnitError::Memory, "memory");
 }
 
-/// Writes the number as a text of four digits.
-fn put_digits(out: &mut Vec<u8>, number: u16) -> Result<(), AllocError> {
-    let thousands = 48 + (number / 1000 % 10) as u8;
-    let hundreds = 48 + (number / 100 % 10) as u8;
-    let tens = 48 + (number / 10 % 10) as u8;
-    let ones = 48 + (number % 10) as u8;
-    out.extend_from_slice(&[0, 0, 0, 4, thousands, hundreds, tens, ones])
+/// Appends the numbers, each as four bytes.
+fn put_numbers(rt: &impl Abort, out: &mut Vec<u8>, numbers: &[u32]) {
+    for number in numbers {
+        put_u32(out, *number).expect(rt, "memory");
+    }
 }
 
-/// Writes 4,096 items: what stands before a number as a text, and what stands behind it, with the number again where
-/// it is named.
-fn put_each(
-    out: &mut Vec<u8>,
-    before: &[u8],
-    behind: &[u8],
-    named: bool,
-) -> Result<(), AllocError> {
-    for number in 0..4096u16 {
-        out.extend_from_slice(before)?;
-        put_digits(out, number)?;
-        out.extend_from_slice(behind)?;
+/// Appends 4,096 items: the numbers before a text of four digits, the text, and the numbers behind it; where it is named, the
+/// text once more.
+fn put_each(rt: &impl Abort, out: &mut Vec<u8>, before: &[u32], behind: &[u32], named: bool) {
+    for n in 0..4096u32 {
+        let digits = 0x3030_3030 | (n & 0o7000) << 15 | (n & 0o700) << 10 | (n & 0o70) << 5 | n & 7;
+        put_numbers(rt, out, before);
+        put_numbers(rt, out, &[4, digits]);
+        put_numbers(rt, out, behind);
         if named {
-            put_digits(out, number)?;
+            put_numbers(rt, out, &[4, digits]);
         }
     }
-    Ok(())
 }
 
-/// A unit with 4,096 units, records, files and includes, behind the fields at the front.
-fn full_unit(alloc: Global, front: &[u8]) -> Result<Vec<u8>, AllocError> {
-    let mut bytes = Vec::from_slice(alloc, front)?;
-    bytes.extend_from_slice(&[0, 0, 48, 0])?;
-    put_each(&mut bytes, &[0, 0, 0, 1], &[], false)?;
-    put_each(&mut bytes, &[0, 0, 0, 2], &[0, 0, 0, 1], true)?;
-    put_each(&mut bytes, &[0, 0, 0, 3], &[0, 0, 0, 0], false)?;
-    bytes.extend_from_slice(&[0, 0, 16, 0])?;
-    put_each(&mut bytes, &[], &[0, 0, 0, 1], true)?;
-    let digest = Sha256::digest(bytes.as_slice());
-    bytes.extend_from_slice(&digest)?;
-    Ok(bytes)
+/// Appends 4,096 units, records, files and includes.
+fn put_lists(rt: &impl Abort, out: &mut Vec<u8>) {
+    put_numbers(rt, out, &[12_288]);
+    put_each(rt, out, &[1], &[], false);
+    put_each(rt, out, &[2], &[1], true);
+    put_each(rt, out, &[3], &[0], false);
+    put_numbers(rt, out, &[4096]);
+    put_each(rt, out, &[], &[1], true);
 }
 
 #[test]
-fn a_full_unit_is_read_and_written(rt: HostRuntime) -> Result<(), Fail> {
-    let front = hex::decode(rt.alloc(), UNIT.split_at(62).0.as_bytes())?;
-    let bytes = full_unit(rt.alloc(), front.as_slice())?;
-    assert!(rt; is_spelled_again(rt.alloc(), bytes.as_slice()));
-    Ok(())
+fn a_full_unit_is_read_and_written(rt: HostRuntime) {
+    let mut out = bytes_of(rt.alloc(), &rt, UNIT.split_at(62).0);
+    put_lists(&rt, &mut out);
+    let digest = Sha256::digest(out.as_slice());
+    out.extend_from_slice(&digest).expect(&rt, "memory");
+    check_spelling(rt.alloc(), &rt, &out);
 }
