@@ -1,5 +1,5 @@
 -- What a reader makes of the front of some bytes: fields, fields that pass a test, a reader behind another, and rising lists.
-use Rattle.std.proofs.Common.{◌≡◌, ℕ, zero, suc, ◌≤◌, Bool, true, false, cond, ltb, List, ◌++◌, length, take, Option, Some, None, Ok, Err, inl, inr, refl, ap, arith}
+use Rattle.std.proofs.Common.{◌≡◌, ◌≢◌, ℕ, zero, suc, ◌≤◌, Bool, true, false, cond, ltb, List, ◌++◌, length, take, Option, Some, None, Ok, Err, inl, inr, refl, ap, arith}
 use Rattle.std.specs.declared.cmp.Ordering.{Ordering}
 use Rattle.std.specs.Int.{w32, w64, from_be_bytes}
 use Rattle.std.proofs.lemmas.Bool.{cases_lt, lt-ltb, le-ltb}
@@ -26,6 +26,18 @@ pub front_test : {E X : Type 0} (short : E) (more : List ℕ) (b : Bool) (front 
     → IsShortOrSame short more (cond b front other) (cond b all other_of_all)
 front_test short more true front all other other_of_all p q = p
 front_test short more false front all other other_of_all p q = q
+
+-- ---- what the front answers
+
+pub front_read : {E X : Type 0} (short : E) (more : List ℕ) (front all : Read E X) (x : X) (to : Input) → IsShortOrSame short more front all → front ≡ Ok (x, to) → all ≡ Ok (x, with_more more to)
+front_read short more front all x to (inl ran_short) is_read = absurd cc
+front_read short more front all x to (inr same) is_read = rw (same, is_read) refl
+
+pub front_refused : {E X : Type 0} (short : E) (more : List ℕ) (front all : Read E X) (e : E) → e ≢ short → IsShortOrSame short more front all → front ≡ Err e → all ≡ Err e
+front_refused short more front all e is_other (inl ran_short) is_refused =
+    let is_short : e ≡ short = cc in
+    absurd (is_other is_short)
+front_refused short more front all e is_other (inr same) is_refused = rw (same, is_refused) refl
 
 -- ---- numbers
 
