@@ -100,6 +100,14 @@ pub All-pushed : {X : Type 0} (P : X → Type 0) (xs : List X) (x : X) → AllBy
 All-pushed P [] x all p = (p, tt)
 All-pushed P (y ∷ xs) x all p = (all.0, All-pushed P xs x all.1 p)
 
+pub All-looked_up : {K X : Type 0} (P : X → Type 0) (test : K → Bool) (es : List (K × X)) (x : X) → AllByRecursion (λ e. P e.1) es → lookup test es ≡ Some x → P x
+All-looked_up P test [] x all is = absurd (cc)
+All-looked_up P test (e ∷ es) x all is =
+    (elim (test e.0) as (λ b. cond b (Some e.1) (lookup test es) ≡ Some x → P x) [
+      | true ↦ λ is. let same : e.1 ≡ x = cc in subst P same all.0
+      | false ↦ λ is. All-looked_up P test es x all.1 is
+    ]) is
+
 -- ---- one element passes a test
 
 pub any-at : {X : Type 0} (test : X → Bool) (xs : List (Option X)) (i : ℕ) (x : X) → get_or xs i None ≡ Some x → test x ≡ true → list_any (option_any test) xs ≡ true

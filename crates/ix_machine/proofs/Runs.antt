@@ -17,7 +17,7 @@ use Rattle.ix_machine.proofs.Rows.{Each, each_stepped}
 
 -- ---- where a run begins
 
-none_at : {X : Type 0} (d : X) (n i : ℕ) → get_or (replicate n d) i d ≡ d
+pub none_at : {X : Type 0} (d : X) (n i : ℕ) → get_or (replicate n d) i d ≡ d
 none_at d zero i = refl
 none_at d (suc n) zero = refl
 none_at d (suc n) (suc i) = none_at d n i

@@ -1,10 +1,12 @@
 -- What the machine never does, in the words of its users.
 use Rattle.std.specs.Prelude.{◌≡◌, ◌≢◌, ℕ, ◌≤◌, zero, suc, false, List, [], ◌∷◌, ◌++◌, length, Some, None, IfSome, IsSome}
+use Rattle.std.specs.List.{AllByRecursion}
 use Rattle.std.specs.Map.{lookup}
 use Rattle.std.specs.BTreeMap.{is_at}
 use Rattle.std.specs.declared.cmp.Ordering.TheVariants.{Less}
 use Rattle.ix_types.specs.Row.{text_cmp}
 use Rattle.ix_model.specs.declared.publication.Publication.{Publication}
+use Rattle.ix_model.specs.Units.{Units}
 use Rattle.ix_machine.specs.declared.event.Outcome.{Outcome}
 use Rattle.ix_machine.specs.declared.event.Outcome.TheVariants.{Done, Written, Shared, Clash, Synced, Unsynced, NoUnit, At, Removed, Nothing, Fault, Lost, Damaged}
 use Rattle.ix_machine.specs.declared.event.Purpose.TheVariants.{Import, Ask}
@@ -75,6 +77,66 @@ after_refusal s lane Adopt = s
 after_refusal s lane Release = s
 after_refusal s lane Collect = s
 
+-- ---- flags
+
+-- the calls that ask the directory for something
+abbrev pub MayFault : Given → Type 0
+MayFault (Lease names) = ⊥
+MayFault (Put body) = Unit {0}
+MayFault (Stage unit) = Unit {0}
+MayFault Publish = Unit {0}
+MayFault (Remove output) = Unit {0}
+MayFault Scan = Unit {0}
+MayFault (Load name purpose) = Unit {0}
+MayFault Install = ⊥
+MayFault Adopt = ⊥
+MayFault Release = ⊥
+MayFault Collect = Unit {0}
+
+-- the calls that change the units, and then sync
+abbrev pub ChangesUnits : Given → Type 0
+ChangesUnits (Lease names) = ⊥
+ChangesUnits (Put body) = ⊥
+ChangesUnits (Stage unit) = ⊥
+ChangesUnits Publish = Unit {0}
+ChangesUnits (Remove output) = Unit {0}
+ChangesUnits Scan = ⊥
+ChangesUnits (Load name purpose) = ⊥
+ChangesUnits Install = ⊥
+ChangesUnits Adopt = ⊥
+ChangesUnits Release = ⊥
+ChangesUnits Collect = ⊥
+
+-- the calls that may find the file of a name lost or damaged: a scan any, a load its own
+abbrev pub MayMiss : Given → List ℕ → Type 0
+MayMiss (Lease names) other = ⊥
+MayMiss (Put body) other = ⊥
+MayMiss (Stage unit) other = ⊥
+MayMiss Publish other = ⊥
+MayMiss (Remove output) other = ⊥
+MayMiss Scan other = Unit {0}
+MayMiss (Load name purpose) other = name ≡ other
+MayMiss Install other = ⊥
+MayMiss Adopt other = ⊥
+MayMiss Release other = ⊥
+MayMiss Collect other = ⊥
+
+-- the flags that a call may have: Done, which is none, and what the directory may do to the call
+abbrev pub IsFlagOf : Given → Outcome → Type 0
+IsFlagOf given Done = Unit {0}
+IsFlagOf given Written = ⊥
+IsFlagOf given Shared = ⊥
+IsFlagOf given Clash = ⊥
+IsFlagOf given Synced = ⊥
+IsFlagOf given Unsynced = ChangesUnits given
+IsFlagOf given NoUnit = ⊥
+IsFlagOf given (At mark) = ⊥
+IsFlagOf given (Removed name) = ⊥
+IsFlagOf given Nothing = ⊥
+IsFlagOf given Fault = MayFault given
+IsFlagOf given (Lost name) = MayMiss given name
+IsFlagOf given (Damaged name) = MayMiss given name
+
 -- ---- changes of the units
 
 -- the change was made like one that is synced, and pends
@@ -96,3 +158,17 @@ pub record KeepsLane (before after : State) (lane : ℕ) : Type 0 where
 pub record NeverFalls (before after : State) (lane : ℕ) : Type 0 where
   pub current : before.current ≤ after.current
   pub held : IfSome (held_by before lane) (λ earlier. IfSome (held_by after lane) (λ later. earlier ≤ later))
+
+-- ---- units and their output paths
+
+-- none of the units has the output path
+abbrev pub IsWithout : List ℕ → Units → Type 0
+IsWithout output units = AllByRecursion (λ entry. entry.1.unit.output ≢ output) units
+
+-- each unit stands under the name of its output path
+abbrev pub AreNamed : (List ℕ → List ℕ) → Units → Type 0
+AreNamed name_of units = AllByRecursion (λ entry. entry.0 ≡ name_of entry.1.unit.output) units
+
+-- no other path has the name of this one
+abbrev pub IsOnlyPath : (List ℕ → List ℕ) → List ℕ → Type 0
+IsOnlyPath name_of output = (other : List ℕ) → name_of other ≡ name_of output → other ≡ output

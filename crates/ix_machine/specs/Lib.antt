@@ -3,6 +3,11 @@ pub mod Given
 pub mod Laws
 pub mod Needs
 pub mod Opening
+pub mod Plain
+pub mod PlainMap
+pub mod PlainOpened
+pub mod PlainRows
+pub mod PlainState
 pub mod Run
 pub mod Sound
 pub mod State

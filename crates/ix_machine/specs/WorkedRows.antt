@@ -159,3 +159,13 @@ removes_what_was_found = by 0 Adopt ∷ by 0 Collect ∷ by 0 Scan ∷ by 0 (Rem
 -- a unit of another output path whose name is the same
 abbrev pub publishes_over_another : List Turn
 publishes_over_another = build 0 (codes "abd") n Done ++ build 0 (codes "abe") n Done ++ by 0 (Remove (codes "abe")) ∷ by 0 (Remove (codes "abd")) ∷ []
+
+-- an import that is installed is open no more
+abbrev pub installs_twice : List Turn
+installs_twice = poll 0 n ++ by 0 Install ∷ []
+
+-- a lease alone spares a record that stands, also one of another lane, until it is dropped
+abbrev pub spares_what_is_leased : List Turn
+spares_what_is_leased =
+    by 0 (Lease (n ∷ [])) ∷ by 0 (Put (body_of n)) ∷ with_flag 0 (Stage (one_record abc n)) Fault ∷ by 1 (Lease (n ∷ [])) ∷ by 0 Collect
+    ∷ with_flag 1 (Put (body_of n)) Fault ∷ by 0 Collect ∷ []

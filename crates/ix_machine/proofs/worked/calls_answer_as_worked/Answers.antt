@@ -49,3 +49,7 @@ returns-clause-taken_over c = refl
 pub returns-clause-other_name : goal.returns-clause-other_name
 unfolding is_needed
 returns-clause-other_name c = refl
+
+pub returns-clause-installed_once : goal.returns-clause-installed_once
+unfolding is_needed
+returns-clause-installed_once c = refl

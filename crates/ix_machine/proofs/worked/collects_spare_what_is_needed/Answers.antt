@@ -33,3 +33,7 @@ returns-clause-installed c = refl
 pub returns-clause-found : goal.returns-clause-found
 unfolding is_needed
 returns-clause-found c = refl
+
+pub returns-clause-leased_alone : goal.returns-clause-leased_alone
+unfolding is_needed
+returns-clause-leased_alone c = refl

@@ -1,0 +1,9 @@
+pub mod Counting
+pub mod Following
+pub mod Naming
+pub mod Listed
+pub mod Loose
+pub mod Leasing
+pub mod Reasons
+pub mod AsMachine
+pub mod Steps

@@ -1,0 +1,6 @@
+pub mod Counts
+pub mod Listing
+pub mod Guarding
+pub mod Protection
+pub mod Reasons
+pub mod OfMachine

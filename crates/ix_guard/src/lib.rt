@@ -1,0 +1,13 @@
+//! Which records must stay: need lists, and the guard that keeps them beside leases and holds.
+#![tactic(auto)]
+
+mod guard;
+pub mod laws;
+mod lease;
+mod need_list;
+mod recount;
+#[cfg(test)]
+mod tests;
+
+pub use guard::Guard;
+pub use need_list::NeedList;
