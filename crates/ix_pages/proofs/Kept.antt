@@ -14,7 +14,7 @@ use Rattle.ix_pages.proofs.Order.{greater_back}
 use Rattle.ix_pages.proofs.Paged.{pairs_of_with, pairs_of_without}
 
 module _ {K V : Type 0} (cmp : K → K → Ordering) where
-  all_with : (P : K × V → Type 0) (es : List (K × V)) (new : K × V) → AllByRecursion P es → P new → AllByRecursion P (with_pair cmp es new)
+  pub all_with : (P : K × V → Type 0) (es : List (K × V)) (new : K × V) → AllByRecursion P es → P new → AllByRecursion P (with_pair cmp es new)
   all_with P [] new all here = (here, tt)
   all_with P (x ∷ xs) new all here = cases (all_with P xs new all.1 here) (cmp new.0 x.0)
     where
@@ -23,7 +23,7 @@ module _ {K V : Type 0} (cmp : K → K → Ordering) where
       cases rest Equal = (here, all.1)
       cases rest Greater = (all.0, rest)
 
-  all_without : (P : K × V → Type 0) (es : List (K × V)) (key : K) → AllByRecursion P es → AllByRecursion P (without_key cmp es key)
+  pub all_without : (P : K × V → Type 0) (es : List (K × V)) (key : K) → AllByRecursion P es → AllByRecursion P (without_key cmp es key)
   all_without P [] key all = tt
   all_without P (x ∷ xs) key all = cases (all_without P xs key all.1) (is_eq (cmp key x.0))
     where
@@ -71,7 +71,7 @@ module _ {K V : Type 0} where
           let back = length-drop ((length page + 1) / 2) page in
           ((omega (arith, front, half.1), omega (arith, front, half.2)), ((omega (arith, back, half.0), omega (arith, back, half.3)), tt))
 
-  sized_kept : (most : ℕ) (page : List (K × V)) → length page ≤ most → AreSized most (kept page)
+  pub sized_kept : (most : ℕ) (page : List (K × V)) → length page ≤ most → AreSized most (kept page)
   sized_kept most [] few = tt
   sized_kept most (x ∷ xs) few = ((omega arith, few), tt)
 

@@ -7,6 +7,13 @@ pub mod Parts
 pub mod Trees
 pub mod Searches
 pub mod Kept
-pub mod Roots
+pub mod Filters
+pub mod Halves
 pub mod Changing
+pub mod OneGo
+pub mod Roots
+pub mod Adjacent
+pub mod Edits
 pub mod OtherWords
+pub mod FallInto
+pub mod Blocks

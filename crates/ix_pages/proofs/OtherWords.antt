@@ -10,7 +10,7 @@ use Rattle.std.proofs.lemmas.Bool.{leb-true, le-leb}
 use Rattle.std.proofs.lemmas.List.{length-append}
 use Rattle.std.proofs.Math.Seq.{take-append_seam, drop-append_seam}
 use Rattle.ix_pages.specs.Pairs.{is_before, IsRising, look_up, with_pair, without_key, from_key}
-use Rattle.ix_pages.specs.Paging.{pairs_of, cut, kept, pages_with, pages_without, ArePages}
+use Rattle.ix_pages.specs.Paging.{pairs_of, cut, kept, AreSized, pages_with, pages_without, ArePages}
 use Rattle.ix_pages.proofs.Order.{less_back}
 use Rattle.ix_pages.proofs.Elements.{all_append_right, all_follow}
 use Rattle.ix_pages.proofs.Rising.{rising_right, look_up_before}
@@ -22,7 +22,7 @@ not_eq Less other = refl
 not_eq Equal other = absurd (other refl)
 not_eq Greater other = refl
 
-not_lt : (a : Ordering) → a ≢ Less → is_lt a ≡ false
+pub not_lt : (a : Ordering) → a ≢ Less → is_lt a ≡ false
 not_lt Less other = absurd (other refl)
 not_lt Equal other = refl
 not_lt Greater other = refl
@@ -61,6 +61,40 @@ module _ {K V : Type 0} (cmp : K → K → Ordering) where
   before_all : (key : K) (pairs : List (K × V)) → AllByRecursion (λ pair. cmp key pair.0 ≡ Less) pairs → is_before cmp key pairs ≡ true
   before_all key [] less = refl
   before_all key (x ∷ xs) less = ap is_lt less.0
+
+  -- a key that isn't in two parts is in neither
+  absent_both : (xs ys : List (K × V)) (key : K) → look_up cmp (xs ++ ys) key ≡ None → (look_up cmp xs key ≡ None) × (look_up cmp ys key ≡ None)
+  absent_both [] ys key absent = (refl, absent)
+  absent_both (x ∷ xs) ys key absent = cases (absent_both xs ys key) (is_eq (cmp key x.0)) absent
+    where
+      cases : (look_up cmp (xs ++ ys) key ≡ None → (look_up cmp xs key ≡ None) × (look_up cmp ys key ≡ None)) → (b : Bool)
+          → (if b then Some x.1 else look_up cmp (xs ++ ys) key) ≡ None → ((if b then Some x.1 else look_up cmp xs key) ≡ None) × (look_up cmp ys key ≡ None)
+      cases rest true found = absurd (cc)
+      cases rest false none = rest none
+
+  absent_kept : (xs : List (K × V)) (key : K) → look_up cmp xs key ≡ None → without_key cmp xs key ≡ xs
+  absent_kept [] key absent = refl
+  absent_kept (x ∷ xs) key absent = cases (absent_kept xs key) (is_eq (cmp key x.0)) absent
+    where
+      cases : (look_up cmp xs key ≡ None → without_key cmp xs key ≡ xs) → (b : Bool)
+          → (if b then Some x.1 else look_up cmp xs key) ≡ None → (if b then xs else x ∷ without_key cmp xs key) ≡ x ∷ xs
+      cases rest true found = absurd (cc)
+      cases rest false none = ap (λ zs. x ∷ zs) (rest none)
+
+  kept_whole : (page : List (K × V)) → 0 < length page → kept page ≡ page ∷ []
+  kept_whole [] some = absurd (omega arith)
+  kept_whole (x ∷ xs) some = refl
+
+  pub absent_stays : (most : ℕ) (pages : List (List (K × V))) (key : K) → AreSized most pages → look_up cmp (pairs_of pages) key ≡ None → pages_without cmp pages key ≡ pages
+  absent_stays most [] key sized absent = refl
+  absent_stays most (page ∷ pages) key sized absent = cases (absent_stays most pages key sized.1 parts.1) (is_before cmp key (pairs_of pages))
+    where
+      parts : (look_up cmp page key ≡ None) × (look_up cmp (pairs_of pages) key ≡ None)
+      parts = absent_both page (pairs_of pages) key absent
+
+      cases : pages_without cmp pages key ≡ pages → (b : Bool) → (if b then kept (without_key cmp page key) ++ pages else page ∷ pages_without cmp pages key) ≡ page ∷ pages
+      cases rest true = ap (λ own. kept own ++ pages) (absent_kept page key parts.0) ∙ ap (λ own. own ++ pages) (kept_whole page sized.0.0)
+      cases rest false = ap (λ later. page ∷ later) rest
 
   pub with_first : (most : ℕ) (page : List (K × V)) (back : List (List (K × V))) (new : K × V) → AllByRecursion (λ pair. cmp new.0 pair.0 ≡ Less) (pairs_of back)
       → pages_with cmp most (page ∷ back) new ≡ cut most (with_pair cmp page new) ++ back
@@ -141,7 +175,7 @@ module _ {K V : Type 0} {cmp : K → K → Ordering} (o : IsTotalOrder cmp) wher
       pages_without_right o key front ((least ∷ pairs) ∷ back) (subst (IsRising cmp) (pairs_of-append front ((least ∷ pairs) ∷ back)) rising) (not_lt (cmp key least.0) behind)
       ∙ ap (λ pages. front ++ pages) (without_first cmp (least ∷ pairs) back key less)
 
-half_of : (a b n : ℕ) → n ≡ a + b → (a ≡ b) ⊎ (a ≡ b + 1) → (n + 1) / 2 ≡ a
+pub half_of : (a b n : ℕ) → n ≡ a + b → (a ≡ b) ⊎ (a ≡ b + 1) → (n + 1) / 2 ≡ a
 half_of a b n sum (inl same) = omega (arith, sum, same)
 half_of a b n sum (inr more) = omega (arith, sum, more)
 

@@ -70,6 +70,9 @@ module _ {K V : Type 0} where
   pub compared : (cmp : K → K → Ordering) (e f e' f' : Entry K V) → e' ≡ e → f' ≡ f → (r : Ordering) → r ≡ cmp e'.key f'.key → cmp e.key f.key ≡ r
   compared cmp e f e' f' p q r is = sym (is ∙ ap (λ x. cmp x.key f'.key) p ∙ ap (λ x. cmp e.key x.key) q)
 
+  pub compared_key : (cmp : K → K → Ordering) (key : K) (f f' : Entry K V) → f' ≡ f → (r : Ordering) → r ≡ cmp key f'.key → cmp key f.key ≡ r
+  compared_key cmp key f f' same r is = sym (is ∙ ap (λ x. cmp key x.key) same)
+
   -- a page of more than the most pairs, in its two parts
   pub cut_over : {X : Type 0} (f : X → K × V) (most h : ℕ) (items : List X) → most < length items → h ≡ (length items + 1) / 2 → map f (take h items) ∷ map f (drop h items) ∷ [] ≡ cut most (map f items)
   cut_over f most h items over half =

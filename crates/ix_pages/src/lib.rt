@@ -1,6 +1,7 @@
 //! A sorted map whose versions share pages.
 #![tactic(auto)]
 
+mod bulk;
 mod changes;
 pub mod laws;
 mod page;
@@ -11,7 +12,7 @@ mod search;
 mod tests;
 mod tree;
 
-pub use changes::Change;
+pub use changes::{Change, are_rising};
 pub use page::Entry;
 pub use pages::Pages;
 pub use range::Range;

@@ -65,7 +65,7 @@ pub(crate) fn part<'a, K: Ord, V>(entries: &'a [Arc<Entry<K, V>>], key: &K) -> P
 }
 
 /// Puts pairs at the end of a list.
-fn append<K: Drop, V: Drop>(
+pub(crate) fn append<K: Drop, V: Drop>(
     list: &mut Vec<Arc<Entry<K, V>>>,
     entries: &[Arc<Entry<K, V>>],
 ) -> Result<(), Memory>
@@ -89,6 +89,13 @@ pub(crate) fn copy<K: Drop, V: Drop>(
     Ok(page)
 }
 
+/// Reads the counts of a page's pairs before each is raised. Reads overlap, and memory brings the pairs side by side.
+fn fetch<K, V>(entries: &[Arc<Entry<K, V>>]) {
+    for entry in entries {
+        let _owners = Arc::strong_count(entry);
+    }
+}
+
 /// The page after a put.
 pub(crate) fn with_entry<K: Ord + Drop, V: Drop>(
     alloc: Global,
@@ -98,6 +105,7 @@ pub(crate) fn with_entry<K: Ord + Drop, V: Drop>(
     requires { IsRising K.cmp (map pair_of entries.now) }
     ensures { IfOk result (λ page. map pair_of page.items ≡ with_pair K.cmp (map pair_of entries.now) (pair_of entry.now)) }
 {
+    fetch(entries);
     let Parted {
         lesser,
         same: _,
@@ -121,6 +129,7 @@ pub(crate) fn without_entry<K: Ord + Drop, V: Drop>(
     requires { IsRising K.cmp (map pair_of entries.now) }
     ensures { IfOk result (λ page. map pair_of page.items ≡ without_key K.cmp (map pair_of entries.now) key.now) }
 {
+    fetch(entries);
     let Parted {
         lesser,
         same: _,
@@ -134,6 +143,40 @@ pub(crate) fn without_entry<K: Ord + Drop, V: Drop>(
     Ok(page)
 }
 
+/// The pairs of a page among which a key would be, eight at most. These comparisons don't wait for one another, as those of a
+/// binary search do, so memory brings several pairs at once.
+fn block_for<'a, K: Ord, V>(entries: &'a [Arc<Entry<K, V>>], key: &K) -> &'a [Arc<Entry<K, V>>]
+    requires { IsRising K.cmp (map pair_of entries.now) }
+    ensures rising { IsRising K.cmp (map pair_of result.now) }
+    ensures value { look_up K.cmp (map pair_of result.now) key.now ≡ look_up K.cmp (map pair_of entries.now) key.now }
+{
+    if entries.len() <= 8 {
+        return entries;
+    }
+    let (front, back) = entries.split_at(8);
+    if key.cmp(&entries[7].key).is_gt() {
+        return block_for(back, key);
+    }
+    front
+}
+
+/// The pair of a key among some in a row.
+fn scan<'a, K: Ord, V>(entries: &'a [Arc<Entry<K, V>>], key: &K) -> Option<&'a Arc<Entry<K, V>>>
+    requires { IsRising K.cmp (map pair_of entries.now) }
+    ensures { option_map (λ entry. (pair_of entry).1) (option_copied result) ≡ look_up K.cmp (map pair_of entries.now) key.now }
+{
+    for entry in entries {
+        let order = key.cmp(&entry.key);
+        if order.is_eq() {
+            return Some(entry);
+        }
+        if order.is_lt() {
+            return None;
+        }
+    }
+    None
+}
+
 /// The pair of a key in a page.
 pub(crate) fn entry_at<'a, K: Ord, V>(
     entries: &'a [Arc<Entry<K, V>>],
@@ -142,13 +185,7 @@ pub(crate) fn entry_at<'a, K: Ord, V>(
     requires { IsRising K.cmp (map pair_of entries.now) }
     ensures { option_map (λ entry. (pair_of entry).1) (option_copied result) ≡ look_up K.cmp (map pair_of entries.now) key.now }
 {
-    let Parted {
-        lesser: _,
-        same,
-        greater: _,
-        from: _,
-    } = part(entries, key);
-    same
+    scan(block_for(entries, key), key)
 }
 
 /// The pairs of a page whose keys aren't less.

@@ -3,7 +3,11 @@ ghost use Rattle.std.specs.Prelude.{◌≡◌, ◌≤◌, [], length, map, slice
 ghost use Rattle.std.specs.Map.Iter.{deref_pair};
 ghost use Rattle.ix_pages.specs.Pairs.{look_up, from_key};
 ghost use Rattle.ix_pages.specs.Paging.{pairs_of, pages_with, pages_without, ArePages};
+ghost use Rattle.ix_pages.specs.Changes.{pages_changed, AreRising};
+ghost use Rattle.ix_pages.specs.Edits.{change_of};
 
+use crate::bulk::{Edit, edited, edited_none};
+use crate::laws;
 use crate::page::{Entry, entry_at};
 use crate::range::Range;
 use crate::search::{Start, entry_of, page_at, page_for, start_at};
@@ -92,14 +96,41 @@ impl<K: Ord + Drop, V: Drop, const P: usize> Pages<K, V, P> {
         }
     }
 
-    /// The map without the key. This one stays.
+    /// The map without the key: the same map once more where it hasn't the key. This one stays.
     pub fn without(&self, alloc: Global, key: &K) -> Result<Pages<K, V, P>, Memory>
         ensures { IfOk result (λ after. after ≡ pages_without K.cmp self.now key.now) }
     {
+        if self.get(key).is_none() {
+            laws::an_absent_key_changes_nothing::<K, V>();
+            let _pages = self.len();
+            let same = self.share()?;
+            return Ok(same);
+        }
         match &self.root {
             None => Ok(Pages { root: None }),
             Some(root) => {
                 let rest = take(alloc, &**root, key)?;
+                Ok(Pages { root: rest })
+            }
+        }
+    }
+
+    /// The map after edits. This one stays.
+    pub(crate) fn with_edits(
+        &self,
+        alloc: Global,
+        edits: &[Edit<K, V>],
+    ) -> Result<Pages<K, V, P>, Memory>
+        requires { AreRising K.cmp (map change_of edits.now) }
+        ensures { IfOk result (λ after. after ≡ pages_changed K.cmp P self.now (map change_of edits.now)) }
+    {
+        match &self.root {
+            None => {
+                let first = edited_none(alloc, P, edits)?;
+                Ok(Pages { root: first })
+            }
+            Some(root) => {
+                let rest = edited(alloc, P, root, edits)?;
                 Ok(Pages { root: rest })
             }
         }
@@ -150,7 +181,7 @@ impl<K: Ord + Drop, V: Drop, const P: usize> Pages<K, V, P> {
     }
 
     /// The pairs, rising. Takes no memory.
-    pub fn iter(&self) -> Range<'_, K, V>
+    pub fn iter(&self) -> Range<'_, K, V, P>
         ensures { result ≡ pairs_of self.now }
     {
         match &self.root {
@@ -160,7 +191,7 @@ impl<K: Ord + Drop, V: Drop, const P: usize> Pages<K, V, P> {
     }
 
     /// The pairs whose key isn't less, rising. Takes no memory.
-    pub fn from_key(&self, key: &K) -> Range<'_, K, V>
+    pub fn from_key(&self, key: &K) -> Range<'_, K, V, P>
         ensures { result ≡ from_key K.cmp (pairs_of self.now) key.now }
     {
         match &self.root {

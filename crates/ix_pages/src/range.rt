@@ -9,9 +9,9 @@ use crate::tree::{Tree, extent_of};
 use std::marker::Model;
 use std::sync::Arc;
 
-/// The pairs from a place on, seen as their list.
+/// The pairs of a map from a place on, seen as their list.
 #[derive(Drop)]
-pub struct Range<'a, K, V> {
+pub struct Range<'a, K, V, const P: usize> {
     /// What is left of a page.
     page: &'a [Arc<Entry<K, V>>],
     /// The number of the next page.
@@ -20,7 +20,7 @@ pub struct Range<'a, K, V> {
     tree: Option<&'a Tree<K, V>>,
 }
 
-impl<'a, K, V> Model for Range<'a, K, V> {
+impl<'a, K, V, const P: usize> Model for Range<'a, K, V, P> {
     ghost use Rattle.std.specs.Prelude.{List, ◌++◌, map, drop, option_copied};
     ghost use Rattle.ix_pages.specs.Paging.{pairs_of};
     ghost use Rattle.ix_pages.specs.Tree.{pair_of, pages_under, IsWholeUnder};
@@ -32,7 +32,7 @@ impl<'a, K, V> Model for Range<'a, K, V> {
     ghost invariant = { λ range. IsWholeUnder (option_copied range.tree) };
 }
 
-impl<'a, K, V> Range<'a, K, V> {
+impl<'a, K, V, const P: usize> Range<'a, K, V, P> {
     ghost use Rattle.std.specs.Prelude.{map, drop, option_copied};
     ghost use Rattle.ix_pages.specs.Paging.{pairs_of};
     ghost use Rattle.ix_pages.specs.Tree.{pair_of, pages_under, IsWholeUnder};
@@ -42,7 +42,7 @@ impl<'a, K, V> Range<'a, K, V> {
         page: &'a [Arc<Entry<K, V>>],
         behind: u64,
         tree: Option<&'a Tree<K, V>>,
-    ) -> Range<'a, K, V>
+    ) -> Range<'a, K, V, P>
         requires { IsWholeUnder (option_copied tree) }
         ensures { result ≡ map pair_of page.entry.now ++ pairs_of (drop behind (pages_under (option_copied tree.entry))) }
     {
@@ -79,7 +79,7 @@ impl<'a, K, V> Range<'a, K, V> {
     }
 }
 
-impl<'a, K, V> Iterator for Range<'a, K, V> {
+impl<'a, K, V, const P: usize> Iterator for Range<'a, K, V, P> {
     type Item = (&'a K, &'a V);
 
     ghost next_gives = { YieldsFirstBy deref_pair (λ range. range) };

@@ -5,7 +5,7 @@ ghost use Rattle.ix_pages.specs.Paging.{pairs_of};
 ghost use Rattle.ix_pages.specs.Tree.{pair_of, pages_of, IsTree};
 
 use crate::page::{Entry, entries_from};
-use crate::tree::{Tree, extent_of};
+use crate::tree::{Tree, extent_of, fetch_head};
 use std::sync::Arc;
 
 /// The page in which a key would be.
@@ -18,6 +18,8 @@ pub(crate) fn page_for<'a, K: Ord, V>(tree: &'a Tree<K, V>, key: &K) -> &'a [Arc
     match tree {
         Tree::Page(entries) => entries,
         Tree::Fork(left, least, right, _) => {
+            fetch_head(left);
+            fetch_head(right);
             if key.cmp(&least.key).is_lt() {
                 page_for(left, key)
             } else {

@@ -66,9 +66,9 @@ fn check_pages(rt: &impl Abort, pages: &Small, want: &str) {
     assert!(rt; pages.page_at(pages.page_count()).is_none());
 }
 
-/// Checks that these pairs are left, in this order, and no others.
-fn check_pairs(rt: &impl Abort, range: Range<'_, u64, u64>, want: &str) {
-    let mut words = want.split_whitespace();
+/// Checks that these pairs are left, in this order, and no others. Each `|` is passed over.
+fn check_pairs(rt: &impl Abort, range: Range<'_, u64, u64, 4>, want: &str) {
+    let mut words = want.split_whitespace().filter(|word| *word != "|");
     for (key, value) in range {
         let word = words.next().expect(rt, "a pair that is wanted");
         assert!(rt; (*key, *value) == pair_in(rt, word), "{word}");
@@ -88,7 +88,11 @@ const WORKED: &str = "\
 -0 -1 -2 -3 -4 -7 -9:
 5: 5 |
 4 3 2 1: 1 2 3 | 4 5 |
--4 -5: 1 2 3 |";
+-4 -5: 1 2 3 |
+-1 -2 -3 -9:
+10 20 30 40 50 35: 10 20 30 35 | 40 50 |
+-20 -25: 10 30 35 | 40 50 |
+30=1 30=2: 10 30=2 35 | 40 50 |";
 
 #[test]
 fn pages_split_and_are_dropped(rt: HostRuntime) {
@@ -101,33 +105,37 @@ fn pages_split_and_are_dropped(rt: HostRuntime) {
     }
 }
 
-/// The keys of a map, changes that rise by key, and the pairs after them.
+/// The keys of a map, changes that rise by key, and the pages that they make in one go.
 const CHANGES: &str = "\
-1 2 3 4 5; 0 -2 -4 6=7; 0 1 3 5 6=7
-1 2 3 4 5; ; 1 2 3 4 5
-; 1 2=3 4 5 6; 1 2=3 4 5 6
+1 2 3 4 5; -4 -5 6; 1 2 3 | 6 |
+1 2 3 4 5; 0 -2 -4 6=7; 0 1 3 | 5 6=7 |
+1 2 3 4 5; ; 1 2 3 | 4 5 |
+; 1 2=3 4 5 6; 1 2=3 4 | 5 6 |
+; 1 2 3 4 5 6 7 8 9 10; 1 2 3 | 4 5 | 6 7 8 | 9 10 |
 ; -1;
-1 2 3 4 5; 2=8 5=9; 1 2=8 3 4 5=9
+1 2 3 4 5; 2=8 5=9; 1 2=8 3 | 4 5=9 |
 1 2 3 4 5; -1 -2 -3 -4 -5;
-1 2 3 4 5; -0 -6 -9; 1 2 3 4 5
-10 20 30 40 50; 35 -36 37; 10 20 30 35 37 40 50
-10 20 30 40 50; 1 2 3 4 5 6 7 8 9; 1 2 3 4 5 6 7 8 9 10 20 30 40 50
-10 20 30 40 50; -30 31 32 -40; 10 20 31 32 50
-10 20 30 40 50 60 70 80 90; 15 -50 55=5 95; 10 15 20 30 40 55=5 60 70 80 90 95";
+1 2 3 4 5; -0 -6 -9; 1 2 3 | 4 5 |
+10 20 30 40 50; 35 -36 37; 10 20 30 | 35 37 | 40 50 |
+10 20 30 40 50; 1 2 3 4 5 6 7 8 9; 1 2 3 | 4 5 6 | 7 8 9 | 10 20 30 | 40 50 |
+10 20 30 40 50; -30 31 32 -40; 10 20 31 32 | 50 |
+10 20 30 40 50 60 70 80 90; 15 -50 55=5 95; 10 15 20 30 | 40 55=5 60 | 70 80 90 95 |
+10 20 30 40 50 60 70 80 90; 5 -70 -80 -90; 5 10 20 30 | 40 50 60 |";
 
-/// Checks that the changes in one go, and one after the other, leave the wanted pairs.
+/// Checks that the changes in one go make the wanted pages, and that one after the other they leave the same pairs.
 fn check_changes(alloc: Global, rt: &impl Abort, old: &Small, words: &str, want: &str) {
     let mut changes = Vec::new(alloc);
     for word in words.split_whitespace() {
         changes.push(change_in(rt, word)).expect(rt, "room");
     }
+    assert!(rt; are_rising(&changes), "{words}");
     let at_once = old.with_all(alloc, changes).expect(rt, "a map");
-    check_pairs(rt, at_once.iter(), want);
+    check_pages(rt, &at_once, want);
     check_pairs(rt, steps(alloc, rt, old, words).iter(), want);
 }
 
 #[test]
-fn changes_go_one_after_the_other(rt: HostRuntime) {
+fn changes_go_in_one_go(rt: HostRuntime) {
     let alloc = rt.alloc();
     let empty = Pages::empty();
     for line in CHANGES.lines() {
@@ -137,6 +145,8 @@ fn changes_go_one_after_the_other(rt: HostRuntime) {
         check_changes(alloc, &rt, &old, words, want);
         check_pairs(&rt, old.iter(), keys);
     }
+    let twice = [Change::Put(2, 1), Change::Take(2)];
+    assert!(rt; !are_rising::<u64, u64>(&twice));
 }
 
 #[test]
@@ -162,8 +172,6 @@ fn an_older_version_stays(rt: HostRuntime) {
 fn pairs_are_found_by_key_and_number(rt: HostRuntime) {
     let alloc = rt.alloc();
     let three = steps(alloc, &rt, &Pages::empty(), "1=2 2=4 3=6");
-    let change = three.with_change(alloc, Change::Put(9, 8));
-    check_pairs(&rt, change.expect(&rt, "a map").iter(), "1=2 2=4 3=6 9=8");
     check_pairs(&rt, three.from_key(&2), "2=4 3=6");
     assert!(rt; three.len() == 3);
     assert!(rt; three.get(&9).is_none());
@@ -173,6 +181,9 @@ fn pairs_are_found_by_key_and_number(rt: HostRuntime) {
     assert!(rt; three.at(3).is_none());
 }
 
+/// Takes what threads may share.
+fn shared<T: Send + Sync>(_value: &T) {}
+
 #[test]
 fn texts_and_names_are_keys(rt: HostRuntime) {
     let alloc = rt.alloc();
@@ -181,6 +192,7 @@ fn texts_and_names_are_keys(rt: HostRuntime) {
     let texts = texts.with(alloc, text, 1).expect(&rt, "a map");
     let text = Text::read(alloc, b"b").expect(&rt, "a text");
     assert!(rt; texts.get(&text) == Some(&1));
+    shared(&texts);
     let name = FileName::read(b"0a").expect(&rt, "a name");
     let names: Pages<FileName, u64, 64> = Pages::empty();
     let names = names.with(alloc, name, 2).expect(&rt, "a map");

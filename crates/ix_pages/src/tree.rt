@@ -43,6 +43,14 @@ pub(crate) fn extent_of<K, V>(tree: &Tree<K, V>) -> Extent
     }
 }
 
+/// Reads the head of a part before it is known whether it is needed: memory brings it while keys are compared.
+pub(crate) fn fetch_head<K, V>(tree: &Arc<Tree<K, V>>) {
+    let _owners = Arc::strong_count(tree);
+    if let Tree::Fork(_, least, _, _) = &**tree {
+        let _owners = Arc::strong_count(least);
+    }
+}
+
 /// A tree of two parts, as they are.
 fn fork<K: Drop, V: Drop>(
     alloc: Global,
@@ -188,25 +196,29 @@ pub(crate) fn put<K: Ord + Drop, V: Drop>(
             let page = with_entry(alloc, entries, entry)?;
             leaves(alloc, most, page)
         }
-        Tree::Fork(left, least, right, _) => match entry.key.cmp(&least.key) {
-            Ordering::Less => {
-                let left = put(alloc, most, left, entry)?;
-                join(alloc, &left, least, right)
+        Tree::Fork(left, least, right, _) => {
+            fetch_head(left);
+            fetch_head(right);
+            match entry.key.cmp(&least.key) {
+                Ordering::Less => {
+                    let left = put(alloc, most, left, entry)?;
+                    join(alloc, &left, least, right)
+                }
+                Ordering::Equal => {
+                    let right = put(alloc, most, right, entry)?;
+                    join(alloc, left, entry, &right)
+                }
+                Ordering::Greater => {
+                    let right = put(alloc, most, right, entry)?;
+                    join(alloc, left, least, &right)
+                }
             }
-            Ordering::Equal => {
-                let right = put(alloc, most, right, entry)?;
-                join(alloc, left, entry, &right)
-            }
-            Ordering::Greater => {
-                let right = put(alloc, most, right, entry)?;
-                join(alloc, left, least, &right)
-            }
-        },
+        }
     }
 }
 
 /// What is left of a page.
-fn rest_of_page<K: Drop, V: Drop>(
+pub(crate) fn rest_of_page<K: Drop, V: Drop>(
     alloc: Global,
     page: Vec<Arc<Entry<K, V>>>,
 ) -> Result<Option<Arc<Tree<K, V>>>, Memory>
@@ -236,7 +248,7 @@ fn with_left<K: Drop, V: Drop>(
     }
 }
 
-/// A left part, and a right part of which something may be left.
+/// A left part, and a right part that lost its first pair.
 fn with_right<K: Drop, V: Drop>(
     alloc: Global,
     left: &Arc<Tree<K, V>>,
@@ -249,6 +261,24 @@ fn with_right<K: Drop, V: Drop>(
     match rest {
         None => Ok(Some(Arc::try_clone(left)?)),
         Some(right) => Ok(Some(join(alloc, left, first_entry(&right), &right)?)),
+    }
+}
+
+/// A left part, and a right part that lost a pair behind its first one.
+fn with_right_from<K: Drop, V: Drop>(
+    alloc: Global,
+    left: &Arc<Tree<K, V>>,
+    least: &Arc<Entry<K, V>>,
+    rest: Option<Arc<Tree<K, V>>>,
+) -> Result<Option<Arc<Tree<K, V>>>, Memory>
+    requires left { IsTree left.now.value }
+    requires right { IsWhole rest }
+    requires least { IsFirst (pair_of least.now) (pairs_of (pages_in rest)) }
+    ensures { IfOk result (λ all. IsRestOf all (pages_of left.now.value ++ pages_in rest)) }
+{
+    match rest {
+        None => Ok(Some(Arc::try_clone(left)?)),
+        Some(right) => Ok(Some(join(alloc, left, least, &right)?)),
     }
 }
 
@@ -281,15 +311,20 @@ pub(crate) fn take<K: Ord + Drop, V: Drop>(
             let page = without_entry(alloc, entries, key)?;
             rest_of_page(alloc, page)
         }
-        Tree::Fork(left, least, right, _) => {
-            if key.cmp(&least.key).is_lt() {
+        Tree::Fork(left, least, right, _) => match key.cmp(&least.key) {
+            Ordering::Less => {
                 let rest = take(alloc, left, key)?;
                 with_left(alloc, rest, least, right)
-            } else {
+            }
+            Ordering::Equal => {
                 let rest = take(alloc, right, key)?;
                 with_right(alloc, left, rest)
             }
-        }
+            Ordering::Greater => {
+                let rest = take(alloc, right, key)?;
+                with_right_from(alloc, left, least, rest)
+            }
+        },
     }
 }
 
