@@ -1,0 +1,10 @@
+pub mod Answered
+pub mod Batches
+pub mod Loops
+pub mod Members
+pub mod NeededBy
+pub mod Orders
+pub mod Rising
+pub mod Selected
+pub mod Steps
+pub mod Texts

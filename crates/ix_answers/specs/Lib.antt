@@ -1,0 +1,11 @@
+pub mod Answers
+pub mod Batches
+pub mod Facts
+pub mod Lookups
+pub mod Meanings
+pub mod Needs
+pub mod NeedsMeaning
+pub mod Paths
+pub mod Pattern
+pub mod Rising
+pub mod Walks

@@ -1,0 +1,13 @@
+pub mod AllFound
+pub mod Cleaned
+pub mod FilesByName
+pub mod FilesThatStand
+pub mod MovesMade
+pub mod MovesOfOpening
+pub mod OpeningLeaves
+pub mod RecordsOfAUnit
+pub mod SameUnits
+pub mod Steps
+pub mod TakenFor
+pub mod UnitsAlone
+pub mod UnitsMore

@@ -1,0 +1,41 @@
+-- A value's lists and members, beside those of the definitions.
+use Rattle.std.proofs.Common.{◌≡◌, ℕ, ◌<◌, Bool, List, [], ◌∷◌, length, map, ◌+◌, ◌||◌, String, Global, string_bytes, bytes_eq, Bor, refl, sym, ap, ◌∙◌, arith, suc, add-one, drop, get_or, Ok}
+use Rattle.std.specs.List.{list_any, list_all}
+use Rattle.std.specs.Map.{keys_of}
+use Rattle.std.specs.Fmt.{decimal}
+use Rattle.std.proofs.Math.Seq.{drop-cons}
+use Rattle.std.proofs.lemmas.Bool.{le-ltb}
+use Rattle.std.proofs.lemmas.Str.{utf8_valid_len-IsUtf8}
+use Rattle.std.specs.Str.{IsUtf8}
+use Rattle.serde_json.specs.Read.{read}
+use Rattle.serde_json.specs.Data.{Data}
+use Rattle.serde_json.specs.View.{view, items_view, members_view}
+use Rattle.ix_plan.specs.Read.{Read, ◌>>=◌, within}
+use Rattle.serde_json.specs.declared.value.Value.{Value}
+use Rattle.ix_plan.specs.Json.{json_option, keys_among, items_count, in_order}
+
+pub json_of_utf8 : (bytes : List ℕ) → IsUtf8 bytes → json_option bytes ≡ read bytes
+json_of_utf8 bytes utf8 = rw (utf8_valid_len-IsUtf8 bytes utf8, le-ltb (length bytes) (length bytes) (omega arith)) refl
+
+pub items_count_items_view : (vs : List Value) → items_count (items_view vs) ≡ length vs
+items_count_items_view [] = refl
+items_count_items_view (v ∷ vs) = omega (arith, items_count_items_view vs)
+
+abbrev pub is_name : List (Bor (List ℕ)) → List ℕ → Bool
+is_name names key = list_any (λ name. bytes_eq name.now key) names
+
+any_name : (names : List (Bor (List ℕ))) (key : List ℕ) → list_any (λ name. bytes_eq name key) (map (λ name. name.now) names) ≡ is_name names key
+any_name [] key = refl
+any_name (name ∷ names) key = ap (λ b. bytes_eq name.now key || b) (any_name names key)
+
+pub keys_among_members : (names : List (Bor (List ℕ))) (es : List (String Global × Value)) → keys_among (map (λ name. name.now) names) (members_view es) ≡ list_all (λ key. is_name names (string_bytes key)) (keys_of es)
+keys_among_members names [] = refl
+keys_among_members names (e ∷ es) = rw (any_name names (string_bytes e.0), keys_among_members names es) refl
+
+-- one item is read, and those behind it are left
+pub next_item : {S A : Type 0} (f : S → Data → Read A) (add : S → A → S) (s : S) (i : ℕ) (vs : List Value) (v : Value) (a : A)
+    → i < length vs → v ≡ get_or vs i v → within (decimal i) (f s (view v)) ≡ Ok a
+    → in_order f add s i (items_view (drop i vs)) ≡ in_order f add (add s a) (i + 1) (items_view (drop (i + 1) vs))
+next_item f add s i vs v a lt is read =
+    let front : drop i vs ≡ v ∷ drop (i + 1) vs = rw add-one (drop-cons vs i v lt ∙ ap (λ x. x ∷ drop (suc i) vs) (sym is)) in
+    ap (λ xs. in_order f add s i (items_view xs)) front ∙ ap (λ r. r >>= (λ b. in_order f add (add s b) (i + 1) (items_view (drop (i + 1) vs)))) read

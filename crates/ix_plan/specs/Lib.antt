@@ -1,0 +1,9 @@
+pub mod Read
+pub mod Usrs
+pub mod Tables
+pub mod Json
+pub mod Values
+pub mod Plans
+pub mod Steps
+pub mod Reading
+pub mod Keeps

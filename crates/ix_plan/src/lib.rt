@@ -1,0 +1,23 @@
+//! Scripts of lanes: the steps, the described compile jobs, and how they are read from JSON.
+#![tactic(auto)]
+
+mod fields;
+mod json;
+pub mod laws;
+mod plan;
+mod refusal;
+mod script;
+mod steps;
+mod symbol_table;
+mod units;
+mod values;
+mod words;
+
+pub use plan::{
+    FilePlan, IncludePlan, OccurrencePlan, RecordPlan, RelationPlan, Script, Step, SymbolPlan,
+    UnitPlan,
+};
+pub use refusal::{Place, ScriptError, ScriptRefusal, What};
+
+#[cfg(test)]
+mod tests;

@@ -1,0 +1,314 @@
+//! Reading steps and asks from a JSON value, by their words.
+ghost use Rattle.std.specs.Prelude.{◌≡◌, List, ℕ, codes, Bool};
+ghost use Rattle.serde_json.specs.View.{view};
+ghost use Rattle.ix_plan.specs.Read.{Read, Gives, GivesAs};
+ghost use Rattle.ix_plan.specs.Json.{field};
+ghost use Rattle.ix_plan.specs.Values.{string_of, bit_of, some_bits_of};
+ghost use Rattle.ix_plan.specs.Steps.{unknown_word, one_text, usr_and_roles, usr_and_depth, name_ask, pattern_ask, walk_by_word, path_by_word, name_by_word, ask_by_word, ask_of, build_of, remove_of, plain_step, ask_step, step_by_word, step_of, lane_of};
+
+use crate::fields::{
+    Item, count_field, flag_or_false, list, roles_field, text_field, text_or_empty_field,
+};
+use crate::json::{bad_value, member, object, with_fields, within};
+use crate::plan::Step;
+use crate::refusal::{ScriptError, What};
+use crate::units::{Setting, unit};
+use crate::values::{WordSort, string};
+use ix_types::{Format, Query, Roles, Seq, Text};
+use serde_json::Value;
+use std::alloc::Global;
+
+/// The most steps of a lane.
+const MAX_STEPS: usize = 4096;
+
+/// The greatest depth of a walk.
+const MAX_DEPTH: u32 = 16;
+
+/// A field whose value is a string.
+fn word_field<'v>(alloc: Global, value: &'v Value, name: &str) -> Result<&'v str, ScriptError>
+    ensures { GivesAs (λ word. word.now) result (field name.now string_of (view value.now)) }
+{
+    let found = member(alloc, value, name)?;
+    match found.as_str() {
+        Some(word) => Ok(word),
+        None => unknown_word(alloc, name),
+    }
+}
+
+/// Refuses the value of the field.
+fn unknown_word<T: Drop>(alloc: Global, name: &str) -> Result<T, ScriptError>
+    ensures { Gives result (unknown_word name.now) }
+{
+    within(alloc, name, bad_value(alloc))
+}
+
+/// The one field of an ask, a text.
+#[tactic(auto, unfolding(crate::specs::Steps::one_text))]
+fn one_text(alloc: Global, value: &Value, name: &str) -> Result<Text, ScriptError>
+    ensures { Gives result (one_text name.now (view value.now)) }
+{
+    with_fields(alloc, value, &["do", "query", name])?;
+    text_field(alloc, value, name)
+}
+
+/// The fields of an ask with roles.
+#[tactic(auto, unfolding(crate::specs::Steps::usr_and_roles))]
+fn usr_and_roles(
+    alloc: Global,
+    setting: &Setting,
+    value: &Value,
+    sort: WordSort,
+) -> Result<(Text, Roles), ScriptError>
+    ensures { Gives result (usr_and_roles (bit_of sort) (view value.now)) }
+{
+    with_fields(alloc, value, &["do", "query", "usr", "roles"])?;
+    let usr = text_field(alloc, value, "usr")?;
+    let roles = roles_field(alloc, &setting.words, value, sort)?;
+    Ok((usr, roles))
+}
+
+/// The fields of a walk.
+#[tactic(auto, unfolding(crate::specs::Steps::usr_and_depth))]
+fn usr_and_depth(alloc: Global, value: &Value) -> Result<(Text, u32), ScriptError>
+    ensures { Gives result (usr_and_depth (view value.now)) }
+{
+    with_fields(alloc, value, &["do", "query", "usr", "depth"])?;
+    let usr = text_field(alloc, value, "usr")?;
+    let depth = count_field(alloc, value, "depth", MAX_DEPTH)?;
+    Ok((usr, depth))
+}
+
+#[tactic(auto, unfolding(crate::specs::Steps::name_ask))]
+fn name_ask(alloc: Global, value: &Value) -> Result<Query, ScriptError>
+    ensures { Gives result (name_ask (view value.now)) }
+{
+    with_fields(alloc, value, &["do", "query", "name"])?;
+    let name = text_or_empty_field(alloc, value, "name")?;
+    Ok(Query::Name { name })
+}
+
+#[tactic(auto, unfolding(crate::specs::Steps::pattern_ask))]
+fn pattern_ask(alloc: Global, value: &Value) -> Result<Query, ScriptError>
+    ensures { Gives result (pattern_ask (view value.now)) }
+{
+    with_fields(
+        alloc,
+        value,
+        &["do", "query", "text", "start", "end", "fold"],
+    )?;
+    let text = text_field(alloc, value, "text")?;
+    let start = flag_or_false(alloc, value, "start")?;
+    let end = flag_or_false(alloc, value, "end")?;
+    let fold = flag_or_false(alloc, value, "fold")?;
+    Ok(Query::Pattern {
+        text,
+        start,
+        end,
+        fold,
+    })
+}
+
+#[tactic(auto, unfolding(crate::specs::Steps::walk_by_word))]
+fn walk(alloc: Global, word: &str, value: &Value) -> Result<Query, ScriptError>
+    ensures { Gives result (walk_by_word word.now (view value.now)) }
+{
+    if word == "incoming" {
+        let (usr, depth) = usr_and_depth(alloc, value)?;
+        return Ok(Query::Incoming { usr, depth });
+    }
+    if word == "outgoing" {
+        let (usr, depth) = usr_and_depth(alloc, value)?;
+        return Ok(Query::Outgoing { usr, depth });
+    }
+    if word == "supertypes" {
+        let (usr, depth) = usr_and_depth(alloc, value)?;
+        return Ok(Query::Supertypes { usr, depth });
+    }
+    if word == "subtypes" {
+        let (usr, depth) = usr_and_depth(alloc, value)?;
+        return Ok(Query::Subtypes { usr, depth });
+    }
+    unknown_word(alloc, "query")
+}
+
+#[tactic(auto, unfolding(crate::specs::Steps::path_by_word))]
+fn path_ask(alloc: Global, word: &str, value: &Value) -> Result<Query, ScriptError>
+    ensures { Gives result (path_by_word word.now (view value.now)) }
+{
+    if word == "symbols" {
+        let path = one_text(alloc, value, "path")?;
+        return Ok(Query::Symbols { path });
+    }
+    if word == "mains" {
+        let path = one_text(alloc, value, "path")?;
+        return Ok(Query::Mains { path });
+    }
+    if word == "units" {
+        let path = one_text(alloc, value, "path")?;
+        return Ok(Query::Units { path });
+    }
+    if word == "includes" {
+        let path = one_text(alloc, value, "path")?;
+        return Ok(Query::Includes { path });
+    }
+    if word == "includers" {
+        let path = one_text(alloc, value, "path")?;
+        return Ok(Query::Includers { path });
+    }
+    walk(alloc, word, value)
+}
+
+#[tactic(auto, unfolding(crate::specs::Steps::name_by_word))]
+fn named_ask(alloc: Global, format: Format, word: &str, value: &Value) -> Result<Query, ScriptError>
+    ensures { Gives result (name_by_word format word.now (view value.now)) }
+{
+    if word == "name" {
+        return name_ask(alloc, value);
+    }
+    if word == "pattern" {
+        return pattern_ask(alloc, value);
+    }
+    if word == "codegen" && format == Format::Two {
+        let codegen = one_text(alloc, value, "codegen")?;
+        return Ok(Query::Codegen { codegen });
+    }
+    path_ask(alloc, word, value)
+}
+
+/// The ask of a word.
+#[tactic(auto, unfolding(crate::specs::Steps::ask_by_word))]
+fn ask_by_word(
+    alloc: Global,
+    setting: &Setting,
+    word: &str,
+    value: &Value,
+) -> Result<Query, ScriptError>
+    ensures { Gives result (ask_by_word setting.now.format word.now (view value.now)) }
+{
+    if word == "def" {
+        let usr = one_text(alloc, value, "usr")?;
+        return Ok(Query::Def { usr });
+    }
+    if word == "refs" {
+        let usr = one_text(alloc, value, "usr")?;
+        return Ok(Query::Refs { usr });
+    }
+    if word == "occ" {
+        let (usr, roles) = usr_and_roles(alloc, setting, value, WordSort::Role)?;
+        return Ok(Query::Occ { usr, roles });
+    }
+    if word == "rel" {
+        let (usr, roles) = usr_and_roles(alloc, setting, value, WordSort::Relation)?;
+        return Ok(Query::Rel { usr, roles });
+    }
+    if word == "callers" {
+        let usr = one_text(alloc, value, "usr")?;
+        return Ok(Query::Callers { usr });
+    }
+    if word == "overrides" {
+        let usr = one_text(alloc, value, "usr")?;
+        return Ok(Query::Overrides { usr });
+    }
+    named_ask(alloc, setting.format, word, value)
+}
+
+/// The ask of a step.
+#[tactic(auto, unfolding(crate::specs::Steps::ask_of))]
+pub fn ask(alloc: Global, setting: &Setting, value: &Value) -> Result<Query, ScriptError>
+    ensures { Gives result (ask_of setting.now.format (view value.now)) }
+{
+    let word = word_field(alloc, value, "query")?;
+    ask_by_word(alloc, setting, word, value)
+}
+
+#[tactic(auto, unfolding(crate::specs::Steps::build_of))]
+fn build(alloc: Global, setting: &Setting, value: &Value) -> Result<Step, ScriptError>
+    ensures { Gives result (build_of setting.now.format (view value.now)) }
+{
+    with_fields(alloc, value, &["do", "unit"])?;
+    let found = member(alloc, value, "unit")?;
+    let unit = within(alloc, "unit", unit(alloc, setting, found))?;
+    Ok(Step::Build(unit))
+}
+
+#[tactic(auto, unfolding(crate::specs::Steps::remove_of))]
+fn remove(alloc: Global, value: &Value) -> Result<Step, ScriptError>
+    ensures { Gives result (remove_of (view value.now)) }
+{
+    with_fields(alloc, value, &["do", "output"])?;
+    let output = text_field(alloc, value, "output")?;
+    Ok(Step::Remove(output))
+}
+
+#[tactic(auto, unfolding(crate::specs::Steps::plain_step))]
+fn plain(alloc: Global, value: &Value, step: Step) -> Result<Step, ScriptError>
+    ensures { Gives result (plain_step step (view value.now)) }
+{
+    with_fields(alloc, value, &["do"])?;
+    Ok(step)
+}
+
+#[tactic(auto, unfolding(crate::specs::Steps::ask_step))]
+fn ask_step(alloc: Global, setting: &Setting, value: &Value) -> Result<Step, ScriptError>
+    ensures { Gives result (ask_step setting.now.format (view value.now)) }
+{
+    let query = ask(alloc, setting, value)?;
+    Ok(Step::Ask(query))
+}
+
+#[tactic(auto, unfolding(crate::specs::Steps::step_by_word))]
+fn step_by_word(
+    alloc: Global,
+    setting: &Setting,
+    word: &str,
+    value: &Value,
+) -> Result<Step, ScriptError>
+    ensures { Gives result (step_by_word setting.now.format word.now (view value.now)) }
+{
+    if word == "build" {
+        return build(alloc, setting, value);
+    }
+    if word == "remove" {
+        return remove(alloc, value);
+    }
+    if word == "poll" {
+        return plain(alloc, value, Step::Poll);
+    }
+    if word == "refresh" {
+        return plain(alloc, value, Step::Refresh);
+    }
+    if word == "ask" {
+        return ask_step(alloc, setting, value);
+    }
+    if word == "release" {
+        return plain(alloc, value, Step::Release);
+    }
+    if word == "collect" {
+        return plain(alloc, value, Step::Collect);
+    }
+    unknown_word(alloc, "do")
+}
+
+impl Item<Setting> for Step {
+    ghost use Rattle.ix_plan.specs.Steps.{step_of};
+
+    ghost of = { λ setting. step_of setting.format };
+
+    #[tactic(auto, unfolding(crate::specs::Steps::step_of))]
+    fn read(alloc: Global, setting: &Setting, value: &Value) -> Result<Step, ScriptError> {
+        object(alloc, value)?;
+        let word = word_field(alloc, value, "do")?;
+        step_by_word(alloc, setting, word, value)
+    }
+}
+
+impl Item<Setting> for Seq<Step> {
+    ghost use Rattle.ix_plan.specs.Steps.{lane_of};
+
+    ghost of = { λ setting. lane_of setting.format };
+
+    #[tactic(auto, unfolding(crate::specs::Steps::lane_of))]
+    fn read(alloc: Global, setting: &Setting, value: &Value) -> Result<Seq<Step>, ScriptError> {
+        list(alloc, setting, value, What::Steps, MAX_STEPS)
+    }
+}
