@@ -61,7 +61,8 @@ pub fn the_guard_agrees_with_the_machine()
     laws::answers_are_sorted_sets();
 }
 
-/// Each step of the machine that may be made in a sound state changes the guard of the state as one call of the guard does, or not at all.
+/// What a step of the machine that may be made in a sound state changes of leases, units and marks, calls of the guard change of the guard of the state: a
+/// publish is two of them, a load none.
 pub fn the_guard_follows_the_machine()
     ensures begins { (opening : Opening) (lanes : ℕ) → guarding_of (begun opening lanes)
         ≡ record (guarding_nothing lanes) { visible = need_list_of (units_after (begun opening lanes).publications) } }

@@ -41,7 +41,7 @@ spelled_value bytes value spelled = let read = spelled_is_read bytes value spell
 value_of_dep : Files → RecordDep → Option RecordValue
 value_of_dep records dep = option_and_then value_of (lookup (is_at (text_cmp dep.name)) records)
 
-values_stand : (name_of : List ℕ → List ℕ) (records : Files) (deps : List RecordDep) → AllByRecursion (λ dep. StandsWhole name_of records dep.name) deps → ValuesStand name_of records deps (values_of records deps)
+pub values_stand : (name_of : List ℕ → List ℕ) (records : Files) (deps : List RecordDep) → AllByRecursion (λ dep. StandsWhole name_of records dep.name) deps → ValuesStand name_of records deps (values_of records deps)
 values_stand name_of records [] all = tt
 values_stand name_of records (dep ∷ deps) all =
     let value = all.0.0 in
@@ -183,7 +183,7 @@ module _ (name_of : List ℕ → List ℕ) (s : State) (h : IsSound name_of s) (
     unsynced = publishing-sound name_of t sound p (Some (length t.publications)) refl stand;
   }
 
-  staged_stand : (unit : UnitValue) (lease : Lease) → lease_of s lane ≡ Some lease → lease.staged ≡ Some unit → AllByRecursion (λ dep. StandsWhole name_of s.records dep.name) unit.records
+  pub staged_stand : (unit : UnitValue) (lease : Lease) → lease_of s lane ≡ Some lease → lease.staged ≡ Some unit → AllByRecursion (λ dep. StandsWhole name_of s.records dep.name) unit.records
   staged_stand unit lease is staged =
       let own : IsLeaseSound name_of s.records lease = subst (λ (o : Option Lease). IfSome o (IsLeaseSound name_of s.records)) is (h.leases lane) in
       let has = subst (λ (o : Option UnitValue). IfSome o (λ unit. IsValidUnit unit × AllByRecursion (λ dep. has_name dep.name lease.put ≡ true) unit.records)) staged own.staged in

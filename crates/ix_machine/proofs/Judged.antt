@@ -163,7 +163,7 @@ module _ (name_of : List ℕ → List ℕ) (records : Files) where
         | Err fault ↦ kept_keys P units all.1
       ]
 
-  kept_rise : (units : Files) → IsStrictlySortedBy text_cmp (keys_of units) → IsStrictlySortedBy text_cmp (keys_of (filter_map (sound_at name_of records) units))
+  pub kept_rise : (units : Files) → IsStrictlySortedBy text_cmp (keys_of units) → IsStrictlySortedBy text_cmp (keys_of (filter_map (sound_at name_of records) units))
   unfolding IsStrictlySortedBy
   kept_rise [] rising = rising
   kept_rise (file ∷ units) rising =

@@ -1,6 +1,7 @@
 pub mod Begun
 pub mod Calls
 pub mod Cases
+pub mod Changed
 pub mod Changes
 pub mod Collects
 pub mod Counted
@@ -8,12 +9,15 @@ pub mod Failures
 pub mod Flags
 pub mod Frames
 pub mod Judged
+pub mod Listing
 pub mod Lists
 pub mod MayBeMade
 pub mod Missing
 pub mod Named
+pub mod NamesKept
 pub mod Needed
 pub mod Plainly
+pub mod Published
 pub mod Publishing
 pub mod Records
 pub mod Refusals

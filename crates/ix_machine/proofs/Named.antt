@@ -37,7 +37,7 @@ use Rattle.ix_machine.proofs.Rows.{Each, each_stepped}
 -- ---- publications under the names of their output paths
 
 module _ (name_of : List ℕ → List ℕ) where
-  abbrev IsNamedPut : Publication → Type 0
+  abbrev pub IsNamedPut : Publication → Type 0
   IsNamedPut (model.Put name stored) = name ≡ name_of stored.unit.output
   IsNamedPut (model.Gone name) = Unit {0}
 
@@ -122,7 +122,7 @@ module _ (name_of : List ℕ → List ℕ) where
     keeps Release r e = some_row Keeps s lane _ r e (record { plain = puts; faulted = tt; unsynced = tt })
     keeps Collect r e = some_row Keeps s lane _ r e (record { plain = collected-keeps (loose s); faulted = puts; unsynced = tt })
 
-  led-named : (turns : List Turn) (s end : State) → PutsAreNamed s → Leads name_of s turns end → PutsAreNamed end
+  pub led-named : (turns : List Turn) (s end : State) → PutsAreNamed s → Leads name_of s turns end → PutsAreNamed end
   led-named [] s end puts leads = subst PutsAreNamed leads puts
   led-named (turn ∷ turns) s end puts leads =
       led-named turns leads.0.state end (each_stepped PutsAreNamed name_of s turn.lane turn.given turn.flag leads.0 (keeps s puts turn.lane turn.given) leads.1.taken) leads.2

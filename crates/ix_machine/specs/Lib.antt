@@ -1,6 +1,7 @@
 pub mod Counts
 pub mod Given
 pub mod Laws
+pub mod Listed
 pub mod Needs
 pub mod Opening
 pub mod Plain

@@ -169,3 +169,10 @@ abbrev pub spares_what_is_leased : List Turn
 spares_what_is_leased =
     by 0 (Lease (n ∷ [])) ∷ by 0 (Put (body_of n)) ∷ with_flag 0 (Stage (one_record abc n)) Fault ∷ by 1 (Lease (n ∷ [])) ∷ by 0 Collect
     ∷ with_flag 1 (Put (body_of n)) Fault ∷ by 0 Collect ∷ []
+
+-- a unit of two records: both are needed until the unit is gone
+abbrev pub lists_two_records : List Turn
+lists_two_records =
+    by 0 (Lease (n ∷ m ∷ [])) ∷ by 0 (Put (body_of n)) ∷ by 0 (Put (body_of m))
+    ∷ by 0 (Stage (unit_with abc (dep_on (codes "a.swift") n ∷ dep_on (codes "b.swift") m ∷ []))) ∷ by 0 Publish
+    ∷ by 1 Collect ∷ by 0 (Remove abc) ∷ by 1 Collect ∷ by 1 Collect ∷ by 1 Collect ∷ []

@@ -1,29 +1,37 @@
 //! Laws of the machine, each the contract of a function that does nothing.
-ghost use Rattle.std.specs.Prelude.{◌≡◌, ◌≢◌, ◌+◌, ◌≤◌, ◌∷◌, ◌++◌, ◌↔◌, List, ℕ, Option, Some, Ok, Err, true, false, drop, length, [], IfSome, IsSome, None, count_by};
+ghost use Rattle.std.specs.Prelude.{◌≡◌, ◌≢◌, ◌+◌, ◌≤◌, ◌∷◌, ◌++◌, ◌↔◌, List, ℕ, map, Option, Some, Ok, Err, true, false, drop, length, [], IfSome, IsSome, None, count_by};
 ghost use Rattle.std.specs.List.{AllByRecursion};
-ghost use Rattle.std.specs.Map.{lookup};
+ghost use Rattle.std.specs.List.Sorted.{IsStrictlySortedBy};
+ghost use Rattle.std.specs.Map.{keys_of, lookup};
 ghost use Rattle.std.specs.BTreeMap.{is_at};
 ghost use Rattle.ix_types.specs.Row.{text_cmp};
 ghost use Rattle.ix_record.specs.Whole.{IsWhole};
 ghost use Rattle.ix_record.specs.declared.body.Body.{Body};
+ghost use Rattle.ix_record.specs.declared.value.RecordValue.{RecordValue};
+ghost use Rattle.ix_unit.specs.declared.fault.UnitError.TheVariants as errors;
 ghost use Rattle.ix_unit.specs.declared.value.UnitValue.{UnitValue};
 ghost use Rattle.ix_unit.specs.Value.{IsValidUnit};
 ghost use Rattle.ix_wire.specs.Spelling.{IsBytes};
 ghost use Rattle.ix_model.specs.Units.{NamesRise, KeepsOtherNames, unit_named};
 ghost use Rattle.ix_model.specs.declared.publication.Publication.{Publication};
+ghost use Rattle.ix_model.specs.declared.publication.Publication.TheVariants as model;
 ghost use Rattle.ix_model.specs.declared.publication.StoredUnit.{StoredUnit};
 ghost use Rattle.ix_machine.specs.declared.event.Outcome.{Outcome};
-ghost use Rattle.ix_machine.specs.declared.event.Outcome.TheVariants.{Done, Unsynced, NoUnit, Removed, Nothing, Fault, Lost, Damaged};
+ghost use Rattle.ix_machine.specs.declared.event.Outcome.TheVariants.{Done, Clash, Unsynced, NoUnit, Removed, Nothing, Fault, Lost, Damaged};
+ghost use Rattle.ix_machine.specs.declared.opened.Refused.{Refused};
 ghost use Rattle.ix_machine.specs.declared.opened.UnitFault.{UnitFault};
+ghost use Rattle.ix_machine.specs.declared.opened.UnitFault.TheVariants as causes;
+ghost use Rattle.ix_machine.specs.declared.event.Purpose.{Purpose};
 ghost use Rattle.ix_machine.specs.declared.event.Purpose.TheVariants as For;
 ghost use Rattle.ix_machine.specs.Given.{Given, Lease, Put, Stage, Publish, Remove, Scan, Load, Install, Adopt, Release, Collect};
+ghost use Rattle.ix_machine.specs.Listed.{Lists};
 ghost use Rattle.ix_machine.specs.Needs.{has_name, is_needed, loose, settled, units_need, visible, seen_at};
 ghost use Rattle.ix_machine.specs.State as state;
 ghost use Rattle.ix_machine.specs.State.{Files, Import, State, lease_of, held_by};
 ghost use Rattle.ix_machine.specs.Step.{Stepped, step};
 ghost use Rattle.ix_machine.specs.Run.{Opening, IsSoundOpening, MayCall, begun, Turn, Leads};
 ghost use Rattle.ix_machine.specs.Counts.{UnitsMove, Changed, Synced, changes_after, mark_with, is_change, made, acknowledged};
-ghost use Rattle.ix_machine.specs.Opening.{AreFiles, IsFirstCause, IsSoundUnit, ListsAll, judged, opening};
+ghost use Rattle.ix_machine.specs.Opening.{AreFiles, IsFirstCause, IsSoundUnit, ListsAll, cause, judged, opening};
 ghost use Rattle.ix_machine.specs.Sound.{IsSound, MarksInOrder, NeededStand, StandsWhole, ValuesStand, IsLeaseSound};
 ghost use Rattle.ix_machine.specs.Laws.{IsLoose, RemovesLeast, after_collects, IsRefusal, after_refusal, IsFlagOf, ChangesUnits, IsPendingChange, KeepsLane, NeverFalls, IsWithout, AreNamed, IsOnlyPath};
 
@@ -43,6 +51,7 @@ pub fn a_run_begins_with_what_is_found()
     ensures lanes { (opening : Opening) (lanes : ℕ) → (length (begun opening lanes).leases ≡ lanes) × (length (begun opening lanes).held ≡ lanes) }
     ensures units { (opening : Opening) (lanes : ℕ) → NamesRise opening.units → visible (begun opening lanes) ≡ opening.units }
     ensures records { (name_of : List ℕ → List ℕ) (units records : Files) (lanes : ℕ) → (begun (opening name_of units records) lanes).records ≡ records }
+    ensures publications { (opening : Opening) (lanes : ℕ) → (begun opening lanes).publications ≡ map (λ entry. model.Put entry.0 entry.1) opening.units }
 {}
 
 /// Where a call may be made: a publish and an install where they have a step, a removal, a scan, an adopt, a release and a collect always.
@@ -218,4 +227,107 @@ pub fn removals_find_the_unit()
         → Leads name_of (begun (opening name_of units records) lanes) turns s → step name_of s lane (Remove output) Done ≡ Some stepped
         → stepped.outcome ≢ NoUnit
         → KeepsOtherNames (name_of output) (visible s) (visible stepped.state) }
+{}
+
+/// What a call may change, whatever its flag: all else stays. A load that doesn't fail changes nothing.
+pub fn calls_change_what_they_name()
+    ensures lease { (name_of : List ℕ → List ℕ) (s : State) (lane : ℕ) (names : List (List ℕ)) (flag : Outcome) (stepped : Stepped)
+        → step name_of s lane (Lease names) flag ≡ Some stepped → stepped.state ≡ record s { leases = stepped.state.leases } }
+    ensures put { (name_of : List ℕ → List ℕ) (s : State) (lane : ℕ) (body : Body) (flag : Outcome) (stepped : Stepped)
+        → step name_of s lane (Put body) flag ≡ Some stepped
+        → stepped.state ≡ record s { records = stepped.state.records; leases = stepped.state.leases } }
+    ensures stage { (name_of : List ℕ → List ℕ) (s : State) (lane : ℕ) (unit : UnitValue) (flag : Outcome) (stepped : Stepped)
+        → step name_of s lane (Stage unit) flag ≡ Some stepped → stepped.state ≡ record s { leases = stepped.state.leases } }
+    ensures publish { (name_of : List ℕ → List ℕ) (s : State) (lane : ℕ) (flag : Outcome) (stepped : Stepped)
+        → step name_of s lane Publish flag ≡ Some stepped
+        → stepped.state ≡ record s { publications = stepped.state.publications; pending = stepped.state.pending; leases = stepped.state.leases } }
+    ensures remove { (name_of : List ℕ → List ℕ) (s : State) (lane : ℕ) (output : List ℕ) (flag : Outcome) (stepped : Stepped)
+        → step name_of s lane (Remove output) flag ≡ Some stepped
+        → stepped.state ≡ record s { publications = stepped.state.publications; pending = stepped.state.pending } }
+    ensures scan { (name_of : List ℕ → List ℕ) (s : State) (lane : ℕ) (flag : Outcome) (stepped : Stepped)
+        → step name_of s lane Scan flag ≡ Some stepped → stepped.state ≡ record s { import = stepped.state.import } }
+    ensures load { (name_of : List ℕ → List ℕ) (s : State) (lane : ℕ) (name : List ℕ) (purpose : Purpose) (stepped : Stepped)
+        → step name_of s lane (Load name purpose) Done ≡ Some stepped → stepped.state ≡ s }
+    ensures install { (name_of : List ℕ → List ℕ) (s : State) (lane : ℕ) (flag : Outcome) (stepped : Stepped)
+        → step name_of s lane Install flag ≡ Some stepped
+        → stepped.state ≡ record s { import = stepped.state.import; current = stepped.state.current; held = stepped.state.held } }
+    ensures adopt { (name_of : List ℕ → List ℕ) (s : State) (lane : ℕ) (flag : Outcome) (stepped : Stepped)
+        → step name_of s lane Adopt flag ≡ Some stepped → stepped.state ≡ record s { held = stepped.state.held } }
+    ensures release { (name_of : List ℕ → List ℕ) (s : State) (lane : ℕ) (flag : Outcome) (stepped : Stepped)
+        → step name_of s lane Release flag ≡ Some stepped → stepped.state ≡ record s { held = stepped.state.held } }
+    ensures collect { (name_of : List ℕ → List ℕ) (s : State) (lane : ℕ) (flag : Outcome) (stepped : Stepped)
+        → step name_of s lane Collect flag ≡ Some stepped
+        → stepped.state ≡ record s { records = stepped.state.records; pending = stepped.state.pending } }
+    // Behind a put that isn't refused its bytes stand under its name; no put touches the file of another name.
+    ensures put_stands { (name_of : List ℕ → List ℕ) (s : State) (lane : ℕ) (body : Body) (stepped : Stepped)
+        → step name_of s lane (Put body) Done ≡ Some stepped → stepped.outcome ≢ Clash
+        → lookup (is_at (text_cmp body.name)) stepped.state.records ≡ Some body.bytes }
+    ensures put_others { (name_of : List ℕ → List ℕ) (s : State) (lane : ℕ) (body : Body) (flag : Outcome) (stepped : Stepped) (other : List ℕ)
+        → step name_of s lane (Put body) flag ≡ Some stepped → body.name ≢ other
+        → lookup (is_at (text_cmp other)) stepped.state.records ≡ lookup (is_at (text_cmp other)) s.records }
+    // A run takes no publication back.
+    ensures publications { (name_of : List ℕ → List ℕ) (s : State) (turns : List Turn) (later : State)
+        → Leads name_of s turns later → (more : List Publication) × (later.publications ≡ s.publications ++ more) }
+{}
+
+/// What opening finds is what it judges of each file: the sound units with their values, and each refused name with its cause. Where the
+/// files rise by name, both do.
+pub fn opening_lists_what_is_judged()
+    ensures units { (name_of : List ℕ → List ℕ) (units records : Files) (found : List ℕ × StoredUnit)
+        → Lists (opening name_of units records).units found
+        ↔ ((bytes : List ℕ) × Lists units (found.0, bytes) × (judged name_of records found.0 bytes ≡ Ok found.1)) }
+    ensures refused { (name_of : List ℕ → List ℕ) (units records : Files) (refused : Refused)
+        → Lists (opening name_of units records).refused refused
+        ↔ ((bytes : List ℕ) × Lists units (refused.name, bytes) × (judged name_of records refused.name bytes ≡ Err refused.cause)) }
+    ensures units_rise { (name_of : List ℕ → List ℕ) (units records : Files) → IsStrictlySortedBy text_cmp (keys_of units)
+        → NamesRise (opening name_of units records).units }
+    ensures refused_rise { (name_of : List ℕ → List ℕ) (units records : Files) → IsStrictlySortedBy text_cmp (keys_of units)
+        → IsStrictlySortedBy text_cmp (map (λ refused. refused.name) (opening name_of units records).refused) }
+{}
+
+/// A publish that is made adds one publication: the staged unit under the name of its output path, with the values that the files of its
+/// records spell. Its lane has no lease then.
+pub fn a_publish_adds_what_is_staged()
+    ensures added { (name_of : List ℕ → List ℕ) (s : State) (lane : ℕ) (lease : state.Lease) (unit : UnitValue) (stepped : Stepped)
+        → IsSound name_of s → lease_of s lane ≡ Some lease → lease.staged ≡ Some unit
+        → step name_of s lane Publish Done ≡ Some stepped → stepped.outcome ≢ Clash
+        → (values : List RecordValue) × (stepped.state.publications ≡ s.publications ++ model.Put (name_of unit.output) (record { unit = unit; values = values }) ∷ [])
+        × ValuesStand name_of s.records unit.records values }
+    ensures drops { (name_of : List ℕ → List ℕ) (s : State) (lane : ℕ) (flag : Outcome) (stepped : Stepped)
+        → step name_of s lane Publish flag ≡ Some stepped → lease_of stepped.state lane ≡ None }
+{}
+
+/// A put and a stage may always fail, a put also where it would be refused.
+pub fn puts_and_stages_may_fail()
+    ensures put { (name_of : List ℕ → List ℕ) (s : State) (lane : ℕ) (body : Body)
+        → step name_of s lane (Put body) Fault ≡ Some (record { outcome = Fault; state = after_refusal s lane (Put body) }) }
+    ensures stage { (name_of : List ℕ → List ℕ) (s : State) (lane : ℕ) (unit : UnitValue)
+        → step name_of s lane (Stage unit) Fault ≡ Some (record { outcome = Fault; state = after_refusal s lane (Stage unit) }) }
+{}
+
+/// Each fault of a unit's bytes is a cause of its own; want of memory is none, and reading never gives it.
+pub fn each_fault_is_its_own_cause()
+    ensures magic { cause errors.BadMagic ≡ causes.Magic }
+    ensures short { cause errors.Short ≡ causes.Short }
+    ensures field { (at : ℕ) → cause (errors.BadField at) ≡ causes.Field at }
+    ensures order { (at : ℕ) → cause (errors.OutOfOrder at) ≡ causes.Order at }
+    ensures trailing { (at : ℕ) → cause (errors.Trailing at) ≡ causes.Trailing at }
+    ensures digest { cause errors.BadDigest ≡ causes.Digest }
+{}
+
+/// What is said of units and their output paths holds of a run from any units that stand under the names of their output paths, as those
+/// that opening finds do, whatever the files hold.
+pub fn units_keep_their_names()
+    ensures found { (name_of : List ℕ → List ℕ) (units records : Files) → AreNamed name_of (opening name_of units records).units }
+    ensures named { (name_of : List ℕ → List ℕ) (found : Opening) (lanes : ℕ) (turns : List Turn) (s : State) (mark : ℕ)
+        → AreNamed name_of found.units → Leads name_of (begun found lanes) turns s → AreNamed name_of (seen_at s mark) }
+    ensures free { (name_of : List ℕ → List ℕ) (found : Opening) (lanes : ℕ) (turns : List Turn) (s : State) (output : List ℕ)
+        → AreNamed name_of found.units → Leads name_of (begun found lanes) turns s → IsOnlyPath name_of output → IsWithout output (visible s)
+        → unit_named (name_of output) (visible s) ≡ None }
+    ensures gone { (name_of : List ℕ → List ℕ) (found : Opening) (lanes : ℕ) (turns : List Turn) (s : State) (lane : ℕ) (output : List ℕ) (stepped : Stepped)
+        → AreNamed name_of found.units → Leads name_of (begun found lanes) turns s → step name_of s lane (Remove output) Done ≡ Some stepped
+        → stepped.outcome ≢ NoUnit → IsWithout output (visible stepped.state) }
+    ensures others { (name_of : List ℕ → List ℕ) (found : Opening) (lanes : ℕ) (turns : List Turn) (s : State) (lane : ℕ) (output : List ℕ) (stepped : Stepped)
+        → AreNamed name_of found.units → Leads name_of (begun found lanes) turns s → step name_of s lane (Remove output) Done ≡ Some stepped
+        → stepped.outcome ≢ NoUnit → KeepsOtherNames (name_of output) (visible s) (visible stepped.state) }
 {}

@@ -3,7 +3,7 @@ ghost use Rattle.std.specs.Prelude.{◌≡◌, ◌∷◌, [], Some, None};
 ghost use Rattle.ix_machine.specs.declared.event.Outcome.TheVariants.{Done, Written, Shared, Clash, Synced, Unsynced, NoUnit, At, Removed, Nothing, Fault, Lost, Damaged};
 ghost use Rattle.ix_machine.specs.declared.event.Purpose.TheVariants.{Ask};
 ghost use Rattle.ix_machine.specs.Given.{Adopt, Publish, Install, Collect, Scan, Load};
-ghost use Rattle.ix_machine.specs.WorkedRows.{over_empty, over_one_unit, n, m, u, by, with_flag, spares_a_lease, spares_a_hold, spares_an_import, publishes_twice, spares_what_pends, collects_around_a_build, removes_around_a_build, lists_a_record_twice, puts_over_others, shares, installs_hold, removes_what_was_found, publishes_over_another, fails, installs_twice, spares_what_is_leased};
+ghost use Rattle.ix_machine.specs.WorkedRows.{over_empty, over_one_unit, n, m, u, by, with_flag, spares_a_lease, spares_a_hold, spares_an_import, publishes_twice, spares_what_pends, collects_around_a_build, removes_around_a_build, lists_a_record_twice, puts_over_others, shares, installs_hold, removes_what_was_found, publishes_over_another, fails, installs_twice, spares_what_is_leased, lists_two_records};
 
 /// Which records a collect spares: leased ones, those of the open import, of a version that is held, and of the units from before a
 /// change that pends.
@@ -17,6 +17,7 @@ pub fn collects_spare_what_is_needed()
     ensures found { over_one_unit removes_what_was_found ≡ Some (At 0 ∷ Nothing ∷ At 1 ∷ Synced ∷ Nothing ∷ At 2 ∷ Removed n ∷ []) }
     ensures published { over_empty collects_around_a_build ≡ Some (Nothing ∷ Done ∷ Written ∷ Done ∷ Synced ∷ Nothing ∷ []) }
     ensures twice { over_empty lists_a_record_twice ≡ Some (Done ∷ Written ∷ Done ∷ Synced ∷ Nothing ∷ Synced ∷ Removed n ∷ []) }
+    ensures two_records { over_empty lists_two_records ≡ Some (Done ∷ Written ∷ Written ∷ Done ∷ Synced ∷ Nothing ∷ Synced ∷ Removed m ∷ Removed n ∷ Nothing ∷ []) }
 {}
 
 /// Publishes and removals, failures, and flags that no step allows.

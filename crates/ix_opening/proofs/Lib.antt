@@ -1,7 +1,9 @@
 pub mod AllFound
+pub mod AtTheEnds
 pub mod Cleaned
 pub mod FilesByName
 pub mod FilesThatStand
+pub mod Listings
 pub mod MovesMade
 pub mod MovesOfOpening
 pub mod OpeningLeaves

@@ -58,13 +58,23 @@ pub fn open<D: Dir, N: Naming>(alloc: Global, dir: &mut D, naming: &N) -> Result
     // At each moment from the second sync on, a crash leaves the sound units.
     ensures images { IfTold (D.state dir.old).moves (D.state dir.new).moves (λ before now. (moment : ℕ) (image : Image) → length before + 2 ≤ moment → moment ≤ length now → IsImage (take moment now) image → (opening_of N.name_of image).units ≡ (opening_of N.name_of (standing before)).units) }
 
+    // Up to the second sync a crash leaves what the directory handed in could have left, and at the end no refused file.
+    ensures early { IfTold (D.state dir.old).moves (D.state dir.new).moves (λ before now. (moment : ℕ) (image : Image) → length before ≤ moment → moment ≤ length before + 2 → IsImage (take moment now) image → IsImage before image) }
+    ensures end_units { OnOk result (IfTold (D.state dir.old).moves (D.state dir.new).moves (λ before now. (image : Image) → IsImage now image → (opening_of N.name_of image).units ≡ (opening_of N.name_of (standing before)).units)) }
+    ensures end_refused { OnOk result (IfTold (D.state dir.old).moves (D.state dir.new).moves (λ before now. (image : Image) → IsImage now image → (opening_of N.name_of image).refused ≡ [])) }
+
     ensures state { D.state dir.new ≡ record (D.state dir.old) { moves = (D.state dir.new).moves; spare = (D.state dir.new).spare; faults = counted_where (open_failed result) (D.state dir.old).faults; listings = (D.state dir.new).listings; finds = (D.state dir.new).finds } }
     ensures listed { OnOk result ((D.state dir.new).listings ≡ counted (D.state dir.old).listings) }
+    ensures once { ((D.state dir.new).listings ≡ (D.state dir.old).listings) ⊎ ((D.state dir.new).listings ≡ counted (D.state dir.old).listings) }
+    // It looks behind both syncs.
+    ensures behind { ((D.state dir.new).listings ≡ (D.state dir.old).listings) ⊎ IfTold (D.state dir.old).moves (D.state dir.new).moves (λ before now. length before + 2 ≤ length now) }
     ensures finds { HasNotFallen (D.state dir.old).finds (D.state dir.new).finds }
 {
     laws::opening_leaves_sound_files();
     laws::a_second_opening_finds_the_same();
     laws::a_stop_keeps_sound_units();
+    laws::early_images_are_those_handed_in();
+    laws::a_crash_after_the_end_leaves_sound_units();
     ix_dir::laws::sync_leaves();
     sync_and_clean(alloc, dir, naming)
 }
@@ -85,6 +95,8 @@ fn sync_and_clean<D: Dir, N: Naming>(
     ensures wanting { result ≡ Err OpenError.Memory → (((D.state dir.new).moves ≡ (D.state dir.old).moves) ⊎ ((D.state dir.new).moves ≡ with_move (with_move (D.state dir.old).moves (Synced Records)) (Synced Units))) }
     ensures state { D.state dir.new ≡ record (D.state dir.old) { moves = (D.state dir.new).moves; spare = (D.state dir.new).spare; faults = counted_where (open_failed result) (D.state dir.old).faults; listings = (D.state dir.new).listings; finds = (D.state dir.new).finds } }
     ensures listed { OnOk result ((D.state dir.new).listings ≡ counted (D.state dir.old).listings) }
+    ensures once { ((D.state dir.new).listings ≡ (D.state dir.old).listings) ⊎ ((D.state dir.new).listings ≡ counted (D.state dir.old).listings) }
+    ensures behind { ((D.state dir.new).listings ≡ (D.state dir.old).listings) ⊎ IfTold (D.state dir.old).moves (D.state dir.new).moves (λ before now. length before + 2 ≤ length now) }
     ensures finds { HasNotFallen (D.state dir.old).finds (D.state dir.new).finds }
 {
     ix_dir::laws::area_takes_a_step();

@@ -28,3 +28,6 @@ returns-clause-units c = found_visible
 
 pub returns-clause-records : goal.returns-clause-records
 returns-clause-records c = λ name_of units records lanes. refl
+
+pub returns-clause-publications : goal.returns-clause-publications
+returns-clause-publications c = λ opening lanes. refl

@@ -37,3 +37,7 @@ returns-clause-found c = refl
 pub returns-clause-leased_alone : goal.returns-clause-leased_alone
 unfolding is_needed
 returns-clause-leased_alone c = refl
+
+pub returns-clause-two_records : goal.returns-clause-two_records
+unfolding is_needed
+returns-clause-two_records c = refl

@@ -87,3 +87,33 @@ returns-clause-holds g c =
 
 pub returns-clause-added : goal.returns-clause-added
 returns-clause-added g c = front_adds g.N.Naming.name_of (g.D.Dir.state c.args.dir.now).moves (g.D.Dir.state c.sync_and_clean.new.dir).moves c.sync_and_clean.ensures.front
+
+pub returns-clause-early : goal.returns-clause-early
+returns-clause-early g c =
+    let name_of = g.N.Naming.name_of in
+    front_told name_of
+    (λ before now. (moment : ℕ) (image : Image) → length before ≤ moment → moment ≤ length before + 2 → IsImage (take moment now) image → IsImage before image)
+    (λ b n front. λ moment image from to left. c.early_images_are_those_handed_in.ensures name_of b n moment image front from to left)
+    (g.D.Dir.state c.args.dir.now).moves (g.D.Dir.state c.sync_and_clean.new.dir).moves c.sync_and_clean.ensures.front
+
+pub returns-clause-end_units : goal.returns-clause-end_units
+returns-clause-end_units g c =
+    let name_of = g.N.Naming.name_of in
+    let before = (g.D.Dir.state c.args.dir.now).moves in
+    let now = (g.D.Dir.state c.sync_and_clean.new.dir).moves in
+    let made : List Move → List Move → Type 0 = λ b n. n ≡ b ++ opening_moves name_of b in
+    let same : List Move → List Move → Type 0 = λ b n. (image : Image) → IsImage n image → (opening_of name_of image).units ≡ (opening_of name_of (standing b)).units in
+    on_ok c.sync_and_clean.result (IfTold before now made) (IfTold before now same)
+    (told_map made same (λ b n is. λ image left. c.a_crash_after_the_end_leaves_sound_units.ensures.units name_of b image (subst (λ (ms : List Move). IsImage ms image) is left)) before now)
+    c.sync_and_clean.ensures.moves
+
+pub returns-clause-end_refused : goal.returns-clause-end_refused
+returns-clause-end_refused g c =
+    let name_of = g.N.Naming.name_of in
+    let before = (g.D.Dir.state c.args.dir.now).moves in
+    let now = (g.D.Dir.state c.sync_and_clean.new.dir).moves in
+    let made : List Move → List Move → Type 0 = λ b n. n ≡ b ++ opening_moves name_of b in
+    let none : List Move → List Move → Type 0 = λ b n. (image : Image) → IsImage n image → (opening_of name_of image).refused ≡ [] in
+    on_ok c.sync_and_clean.result (IfTold before now made) (IfTold before now none)
+    (told_map made none (λ b n is. λ image left. c.a_crash_after_the_end_leaves_sound_units.ensures.refused name_of b image (subst (λ (ms : List Move). IsImage ms image) is left)) before now)
+    c.sync_and_clean.ensures.moves

@@ -1,8 +1,10 @@
-use Rattle.std.proofs.Common.{◌≡◌, ◌≤◌, ap, sym, ◌∙◌, subst}
+use Rattle.std.proofs.Common.{◌≡◌, ◌≤◌, ◌++◌, inl, inr, List, refl, ap, sym, ◌∙◌, subst}
 use Rattle.std.specs.Option.{option_map}
-use Rattle.ix_opening.specs.AfterOpening.{names_of, cleaned, IsCleanedInPart}
+use Rattle.ix_dir.specs.declared.moves.Move.{Move}
+use Rattle.ix_opening.specs.AfterOpening.{names_of, cleaned, opening_moves, IsCleanedInPart}
+use Rattle.ix_opening.proofs.Listings.{BothMade, once_between, both_are_made, part_is_made, all_are_made}
 use Rattle.ix_opening.proofs.MovesOfOpening.{DirLaws}
-use Rattle.ix_opening.proofs.MovesMade.{made_first, made_both, made_part, made_all, told_as_before, all_is_front, found_before, at_before}
+use Rattle.ix_opening.proofs.MovesMade.{made_first, made_both, made_part, made_all, told_as_before, told_map, all_is_front, found_before, at_before}
 use Rattle.ix_opening.proofs.cleaning.sync_and_clean.Goals as goal
 
 pub returns-clause-moves : goal.returns-clause-moves
@@ -63,3 +65,35 @@ returns-in_err-clean-clause-finds g c = λ n small h.
 pub returns-clause-finds : goal.returns-clause-finds
 returns-clause-finds g c = λ n small h.
     subst (λ x. n ≤ x) (sym (ap (λ d. d.finds) c.clean.ensures.state)) (c.look.ensures.finds n small (subst (λ x. n ≤ x) (sym (ap (λ d. d.finds) c.sync_both.ensures.state)) h))
+
+pub returns-in_err-sync_both-clause-once : goal.returns-in_err-sync_both-clause-once
+returns-in_err-sync_both-clause-once g c = inl (ap (λ d. d.listings) c.sync_both.ensures.state)
+
+pub returns-in_err-found-clause-once : goal.returns-in_err-found-clause-once
+returns-in_err-found-clause-once g c = once_between _ _ _ _ (ap (λ d. d.listings) c.sync_both.ensures.state) c.look.ensures.once refl
+
+pub returns-in_err-clean-clause-once : goal.returns-in_err-clean-clause-once
+returns-in_err-clean-clause-once g c = once_between _ _ _ _ (ap (λ d. d.listings) c.sync_both.ensures.state) c.look.ensures.once (ap (λ d. d.listings) c.clean.ensures.state)
+
+pub returns-clause-once : goal.returns-clause-once
+returns-clause-once g c = once_between _ _ _ _ (ap (λ d. d.listings) c.sync_both.ensures.state) c.look.ensures.once (ap (λ d. d.listings) c.clean.ensures.state)
+
+pub returns-in_err-sync_both-clause-behind : goal.returns-in_err-sync_both-clause-behind
+returns-in_err-sync_both-clause-behind g c = inl (ap (λ d. d.listings) c.sync_both.ensures.state)
+
+pub returns-in_err-found-clause-behind : goal.returns-in_err-found-clause-behind
+returns-in_err-found-clause-behind g c =
+    inr (both_are_made (g.D.Dir.state c.args.dir.now).moves (g.D.Dir.state c.look.new.dir).moves (ap (λ d. d.moves) c.look.ensures.state ∙ c.in_ok-sync_both.ensures.synced))
+
+pub returns-in_err-clean-clause-behind : goal.returns-in_err-clean-clause-behind
+returns-in_err-clean-clause-behind g c =
+    let looked : (g.D.Dir.state c.look.new.dir).moves ≡ (g.D.Dir.state c.sync_both.new.dir).moves = ap (λ d. d.moves) c.look.ensures.state in
+    inr
+    (part_is_made (g.D.Dir.state c.args.dir.now).moves (g.D.Dir.state c.look.new.dir).moves (g.D.Dir.state c.clean.new.dir).moves c.as_slice.result.now
+    (looked ∙ c.in_ok-sync_both.ensures.synced) c.in_err-clean.ensures.part)
+
+pub returns-clause-behind : goal.returns-clause-behind
+returns-clause-behind g c =
+    let name_of = g.N.Naming.name_of in
+    let made : List Move → List Move → Type 0 = λ b n. n ≡ b ++ opening_moves name_of b in
+    inr (told_map made BothMade (all_are_made name_of) (g.D.Dir.state c.args.dir.now).moves (g.D.Dir.state c.clean.new.dir).moves (returns-clause-moves g c))
