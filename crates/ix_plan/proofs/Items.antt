@@ -1,5 +1,5 @@
 -- A value's lists and members, beside those of the definitions.
-use Rattle.std.proofs.Common.{◌≡◌, ℕ, ◌<◌, Bool, List, [], ◌∷◌, length, map, ◌+◌, ◌||◌, String, Global, string_bytes, bytes_eq, Bor, refl, sym, ap, ◌∙◌, arith, suc, add-one, drop, get_or, Ok}
+use Rattle.std.proofs.Common.{◌≡◌, ℕ, ◌<◌, Bool, true, false, List, [], ◌∷◌, ◌++◌, length, map, codes, ◌+◌, ◌||◌, String, Global, string_bytes, bytes_eq, Bor, refl, sym, ap, ◌∙◌, arith, suc, add-one, drop, get_or, Ok}
 use Rattle.std.specs.List.{list_any, list_all}
 use Rattle.std.specs.Map.{keys_of}
 use Rattle.std.specs.Fmt.{decimal}
@@ -12,10 +12,14 @@ use Rattle.serde_json.specs.Data.{Data}
 use Rattle.serde_json.specs.View.{view, items_view, members_view}
 use Rattle.ix_plan.specs.Read.{Read, ◌>>=◌, within}
 use Rattle.serde_json.specs.declared.value.Value.{Value}
+use Rattle.ix_plan.specs.Texts.{text_at}
 use Rattle.ix_plan.specs.Json.{json_option, keys_among, items_count, in_order}
 
 pub json_of_utf8 : (bytes : List ℕ) → IsUtf8 bytes → json_option bytes ≡ read bytes
 json_of_utf8 bytes utf8 = rw (utf8_valid_len-IsUtf8 bytes utf8, le-ltb (length bytes) (length bytes) (omega arith)) refl
+
+pub text_at_utf8 : (sort path : List ℕ) → IsUtf8 path → text_at sort path ≡ sort ++ (codes " at \"" ++ (path ++ codes "\""))
+text_at_utf8 sort path utf8 = rw (utf8_valid_len-IsUtf8 path utf8, le-ltb (length path) (length path) (omega arith)) refl
 
 pub items_count_items_view : (vs : List Value) → items_count (items_view vs) ≡ length vs
 items_count_items_view [] = refl
@@ -24,13 +28,25 @@ items_count_items_view (v ∷ vs) = omega (arith, items_count_items_view vs)
 abbrev pub is_name : List (Bor (List ℕ)) → List ℕ → Bool
 is_name names key = list_any (λ name. bytes_eq name.now key) names
 
+or-assoc : (a b c : Bool) → ((a || b) || c) ≡ (a || (b || c))
+or-assoc true b c = refl
+or-assoc false b c = refl
+
 any_name : (names : List (Bor (List ℕ))) (key : List ℕ) → list_any (λ name. bytes_eq name key) (map (λ name. name.now) names) ≡ is_name names key
 any_name [] key = refl
 any_name (name ∷ names) key = ap (λ b. bytes_eq name.now key || b) (any_name names key)
 
-pub keys_among_members : (names : List (Bor (List ℕ))) (es : List (String Global × Value)) → keys_among (map (λ name. name.now) names) (members_view es) ≡ list_all (λ key. is_name names (string_bytes key)) (keys_of es)
-keys_among_members names [] = refl
-keys_among_members names (e ∷ es) = rw (any_name names (string_bytes e.0), keys_among_members names es) refl
+abbrev plain : List (Bor (List ℕ)) → List (List ℕ)
+plain names = map (λ name. name.now) names
+
+any_of_both : (names more : List (Bor (List ℕ))) (key : List ℕ) → list_any (λ name. bytes_eq name key) (plain names ++ plain more) ≡ (is_name names key || is_name more key)
+any_of_both [] more key = any_name more key
+any_of_both (name ∷ names) more key = ap (λ b. bytes_eq name.now key || b) (any_of_both names more key) ∙ sym (or-assoc (bytes_eq name.now key) (is_name names key) (is_name more key))
+
+pub keys_among_members : (names more : List (Bor (List ℕ))) (es : List (String Global × Value))
+    → keys_among (map (λ name. name.now) names ++ map (λ name. name.now) more) (members_view es) ≡ list_all (λ key. is_name names (string_bytes key) || is_name more (string_bytes key)) (keys_of es)
+keys_among_members names more [] = refl
+keys_among_members names more (e ∷ es) = rw (any_of_both names more (string_bytes e.0), keys_among_members names more es) refl
 
 -- one item is read, and those behind it are left
 pub next_item : {S A : Type 0} (f : S → Data → Read A) (add : S → A → S) (s : S) (i : ℕ) (vs : List Value) (v : Value) (a : A)

@@ -9,13 +9,16 @@ use Rattle.ix_types.specs.Text.{IsText, IsTextOrEmpty}
 use Rattle.ix_types.specs.declared.format.Format.{Format}
 use Rattle.ix_types.specs.declared.format.Format.TheVariants.{One, Two}
 use Rattle.ix_plan.specs.declared.plan.SymbolPlan.{SymbolPlan}
+use Rattle.ix_plan.specs.declared.plan.OccurrencePlan.{OccurrencePlan}
+use Rattle.ix_plan.specs.declared.plan.RecordPlan.{RecordPlan}
+use Rattle.ix_plan.specs.declared.plan.UnitPlan.{UnitPlan}
 use Rattle.ix_plan.specs.declared.refusal.What.{What}
 use Rattle.ix_plan.specs.declared.refusal.What.TheVariants as what
 use Rattle.ix_plan.specs.Read.{Read, ◌>>=◌, bad_value}
 use Rattle.ix_plan.specs.Json.{with_fields, field, field_or, list_of, in_order, one_more}
 use Rattle.ix_plan.specs.Values.{text_of, text_or_empty_of, flag_of, count_of, max_coordinate, word_of, role_of, relation_of, prop_of, bits_of, some_bits_of, new_usr_of, known_usr_of, tested}
 use Rattle.ix_plan.specs.Plans.{file_of, include_of, relation_plan_of, occurrence_of, symbol_of, symbols_of, occurrences_of, record_of, unit_of, unknown_code, symbol_fields, codegen_of, is_usr_of}
-use Rattle.ix_plan.specs.Keeps.{AreFew, IsCoordinate, AreRoles, AreRelations, IsCodegen, IsSymbolPlan, IsRelationPlan, IsOccurrencePlan, HaveOwnUsrs, IsRecordPlan, IsFilePlan, IsIncludePlan, IsUnitPlan}
+use Rattle.ix_plan.specs.Keeps.{AreFew, IsCoordinate, AreRoles, AreRelations, IsCodegen, IsSymbolPlan, IsRelationPlan, IsOccurrencePlan, HaveOwnUsrs, IsRecordPlan, IsFilePlan, IsIncludePlan, IsUnitPlan, HasFewRelations, IsShortRecord, IsShortUnit, IsRecordOf, IsUnitOf}
 use Rattle.ix_plan.proofs.Lengths.{Keeps, then_keeps, anything, field_keeps}
 use Rattle.ix_plan.proofs.Keeping.{both, weaker, tested_keeps, field_or_keeps, text_keeps, text_or_empty_keeps, count_keeps, word_keeps, order_keeps, items_keep, list_keeps}
 use Rattle.ix_plan.proofs.Masks.{props_keep, roles_keep, relations_keep}
@@ -59,10 +62,22 @@ relation_plan_keeps symbols d =
     then_keeps AreRelations Is (field (codes "roles") (some_bits_of relation_of) d) _ (field_keeps AreRelations (codes "roles") (some_bits_of relation_of) d relations_keep) (λ roles roles_are.
     record { usr = usr_is; roles = roles_are })))
 
-occurrence_keeps : (symbols : List SymbolPlan) (d : Data) → Keeps (IsOccurrencePlan symbols) (occurrence_of (is_usr_of symbols) d)
+-- each is so, and each keeps its limit
+pub all_first : {A : Type 0} (P Q : A → Type 0) (xs : List A) → AllByRecursion (λ x. P x × Q x) xs → AllByRecursion P xs
+all_first P Q [] all = tt
+all_first P Q (x ∷ xs) all = (all.0.0, all_first P Q xs all.1)
+
+pub all_second : {A : Type 0} (P Q : A → Type 0) (xs : List A) → AllByRecursion (λ x. P x × Q x) xs → AllByRecursion Q xs
+all_second P Q [] all = tt
+all_second P Q (x ∷ xs) all = (all.0.1, all_second P Q xs all.1)
+
+abbrev IsOccurrence : List SymbolPlan → OccurrencePlan → Type 0
+IsOccurrence symbols plan = IsOccurrencePlan symbols plan × HasFewRelations plan
+
+occurrence_keeps : (symbols : List SymbolPlan) (d : Data) → Keeps (IsOccurrence symbols) (occurrence_of (is_usr_of symbols) d)
 unfolding occurrence_of
 occurrence_keeps symbols d =
-    let Is = IsOccurrencePlan symbols in
+    let Is = IsOccurrence symbols in
     let Are = AreFew 256 (IsRelationPlan symbols) in
     passed Is (with_fields (codes "usr" ∷ codes "line" ∷ codes "col" ∷ codes "roles" ∷ codes "relations" ∷ []) d) _ (λ checked.
     then_keeps (IsOf symbols) Is (field (codes "usr") (known_usr_of (is_usr_of symbols)) d) _ (field_keeps (IsOf symbols) (codes "usr") (known_usr_of (is_usr_of symbols)) d (known_keeps symbols)) (λ usr usr_is.
@@ -72,7 +87,7 @@ occurrence_keeps symbols d =
     then_keeps Are Is (field_or [] (codes "relations") (list_of what.Relations 256 (λ before. relation_plan_of (is_usr_of symbols))) d) _
     (field_or_keeps Are [] (codes "relations") (list_of what.Relations 256 (λ before. relation_plan_of (is_usr_of symbols))) d (omega arith, tt)
     (λ e. list_keeps (IsRelationPlan symbols) what.Relations 256 (λ before. relation_plan_of (is_usr_of symbols)) e (λ before g. relation_plan_keeps symbols g))) (λ relations relations_are.
-    record { usr = usr_is; line = line_is; col = col_is; roles = roles_are; relations = relations_are }))))))
+    (record { usr = usr_is; line = line_is; col = col_is; roles = roles_are; relations = relations_are.1 }, relations_are.0)))))))
 
 -- a USR that is no symbol's before
 abbrev IsNew : List SymbolPlan → List ℕ → Type 0
@@ -147,33 +162,57 @@ symbols_keep format d =
     (λ ds. order_keeps HaveOwnUsrs read one_more
     (λ before e own. weaker (IsNewSymbol format before) (λ symbol. HaveOwnUsrs (one_more before symbol)) (read before e) (symbol_keeps format before e) (λ symbol is. own_more before symbol own is.1)) [] 0 ds no_usrs))
 
-record_keeps : (format : Format) (d : Data) → Keeps IsRecordPlan (record_of format d)
+abbrev IsRecord : Format → RecordPlan → Type 0
+IsRecord format plan = IsRecordPlan plan × (IsShortRecord plan × IsRecordOf format plan)
+
+record_keeps : (format : Format) (d : Data) → Keeps (IsRecord format) (record_of format d)
 unfolding record_of
 record_keeps format d =
-    passed IsRecordPlan (with_fields (codes "path" ∷ codes "system" ∷ codes "symbols" ∷ codes "occurrences" ∷ []) d) _ (λ checked.
-    then_keeps IsText IsRecordPlan (field (codes "path") text_of d) _ (field_keeps IsText (codes "path") text_of d text_keeps) (λ path path_is.
-    passed IsRecordPlan (field_or false (codes "system") flag_of d) _ (λ system.
-    then_keeps (AreSymbols format) IsRecordPlan (field_or [] (codes "symbols") (symbols_of format) d) _
+    passed (IsRecord format) (with_fields (codes "path" ∷ codes "system" ∷ codes "symbols" ∷ codes "occurrences" ∷ []) d) _ (λ checked.
+    then_keeps IsText (IsRecord format) (field (codes "path") text_of d) _ (field_keeps IsText (codes "path") text_of d text_keeps) (λ path path_is.
+    passed (IsRecord format) (field_or false (codes "system") flag_of d) _ (λ system.
+    then_keeps (AreSymbols format) (IsRecord format) (field_or [] (codes "symbols") (symbols_of format) d) _
     (field_or_keeps (AreSymbols format) [] (codes "symbols") (symbols_of format) d ((omega arith, tt), no_usrs) (symbols_keep format)) (λ symbols symbols_are.
-    then_keeps (AreFew 65536 (IsOccurrencePlan symbols)) IsRecordPlan (field_or [] (codes "occurrences") (occurrences_of symbols) d) _
-    (field_or_keeps (AreFew 65536 (IsOccurrencePlan symbols)) [] (codes "occurrences") (occurrences_of symbols) d (omega arith, tt)
-    (λ e. list_keeps (IsOccurrencePlan symbols) what.Occurrences 65536 (λ before. occurrence_of (is_usr_of symbols)) e (λ before g. occurrence_keeps symbols g))) (λ occurrences occurrences_are.
-    record { path = path_is; symbols = symbols_are.0; own_usrs = symbols_are.1; occurrences = occurrences_are })))))
+    then_keeps (AreFew 65536 (IsOccurrence symbols)) (IsRecord format) (field_or [] (codes "occurrences") (occurrences_of symbols) d) _
+    (field_or_keeps (AreFew 65536 (IsOccurrence symbols)) [] (codes "occurrences") (occurrences_of symbols) d (omega arith, tt)
+    (λ e. list_keeps (IsOccurrence symbols) what.Occurrences 65536 (λ before. occurrence_of (is_usr_of symbols)) e (λ before g. occurrence_keeps symbols g))) (λ occurrences occurrences_are. (
+      record { path = path_is; symbols = symbols_are.0.1; own_usrs = symbols_are.1; occurrences = all_first (IsOccurrencePlan symbols) HasFewRelations occurrences occurrences_are.1 },
+      (record { symbols = symbols_are.0.0; occurrences = occurrences_are.0; relations = all_second (IsOccurrencePlan symbols) HasFewRelations occurrences occurrences_are.1 }, refl),
+    ))))))
 
 few_or_none : {A : Type 0} (P : A → Type 0) (name : List ℕ) (w : What) (f : Data → Read A) (d : Data) → ((e : Data) → Keeps P (f e))
     → Keeps (AreFew 4096 P) (field_or [] name (list_of w 4096 (λ before. f)) d)
 few_or_none P name w f d k = field_or_keeps (AreFew 4096 P) [] name (list_of w 4096 (λ before. f)) d (omega arith, tt) (λ e. list_keeps P w 4096 (λ before. f) e (λ before g. k g))
 
-pub unit_keeps : (format : Format) (d : Data) → Keeps IsUnitPlan (unit_of format d)
+limited : (format : Format) (records : List RecordPlan) → AllByRecursion (IsRecord format) records → AllByRecursion (λ r. IsShortRecord r × IsRecordOf format r) records
+limited format = all_second IsRecordPlan (λ r. IsShortRecord r × IsRecordOf format r)
+
+abbrev pub IsUnit : Format → UnitPlan → Type 0
+IsUnit format plan = IsUnitPlan plan × (IsShortUnit plan × IsUnitOf format plan)
+
+pub unit_keeps : (format : Format) (d : Data) → Keeps (IsUnit format) (unit_of format d)
 unfolding unit_of
 unit_keeps format d =
-    passed IsUnitPlan (with_fields (codes "output" ∷ codes "main" ∷ codes "module" ∷ codes "system" ∷ codes "units" ∷ codes "records" ∷ codes "files" ∷ codes "includes" ∷ []) d) _ (λ checked.
-    then_keeps IsText IsUnitPlan (field (codes "output") text_of d) _ (field_keeps IsText (codes "output") text_of d text_keeps) (λ output output_is.
-    then_keeps IsTextOrEmpty IsUnitPlan (field_or [] (codes "main") text_or_empty_of d) _ (field_or_keeps IsTextOrEmpty [] (codes "main") text_or_empty_of d no_text text_or_empty_keeps) (λ main main_is.
-    then_keeps IsTextOrEmpty IsUnitPlan (field_or [] (codes "module") text_or_empty_of d) _ (field_or_keeps IsTextOrEmpty [] (codes "module") text_or_empty_of d no_text text_or_empty_keeps) (λ name name_is.
-    passed IsUnitPlan (field_or false (codes "system") flag_of d) _ (λ system.
-    then_keeps (AreFew 4096 IsText) IsUnitPlan (field_or [] (codes "units") (list_of what.Units 4096 (λ before. text_of)) d) _ (few_or_none IsText (codes "units") what.Units text_of d text_keeps) (λ units units_are.
-    then_keeps (AreFew 4096 IsRecordPlan) IsUnitPlan (field_or [] (codes "records") (list_of what.Records 4096 (λ before. record_of format)) d) _ (few_or_none IsRecordPlan (codes "records") what.Records (record_of format) d (record_keeps format)) (λ records records_are.
-    then_keeps (AreFew 4096 IsFilePlan) IsUnitPlan (field_or [] (codes "files") (list_of what.Files 4096 (λ before. file_of)) d) _ (few_or_none IsFilePlan (codes "files") what.Files file_of d file_keeps) (λ files files_are.
-    then_keeps (AreFew 4096 IsIncludePlan) IsUnitPlan (field_or [] (codes "includes") (list_of what.Includes 4096 (λ before. include_of)) d) _ (few_or_none IsIncludePlan (codes "includes") what.Includes include_of d include_keeps) (λ includes includes_are.
-    record { output = output_is; main = main_is; module_name = name_is; units = units_are; records = records_are; files = files_are; includes = includes_are })))))))))
+    passed (IsUnit format) (with_fields (codes "output" ∷ codes "main" ∷ codes "module" ∷ codes "system" ∷ codes "units" ∷ codes "records" ∷ codes "files" ∷ codes "includes" ∷ []) d) _ (λ checked.
+    then_keeps IsText (IsUnit format) (field (codes "output") text_of d) _ (field_keeps IsText (codes "output") text_of d text_keeps) (λ output output_is.
+    then_keeps IsTextOrEmpty (IsUnit format) (field_or [] (codes "main") text_or_empty_of d) _ (field_or_keeps IsTextOrEmpty [] (codes "main") text_or_empty_of d no_text text_or_empty_keeps) (λ main main_is.
+    then_keeps IsTextOrEmpty (IsUnit format) (field_or [] (codes "module") text_or_empty_of d) _ (field_or_keeps IsTextOrEmpty [] (codes "module") text_or_empty_of d no_text text_or_empty_keeps) (λ name name_is.
+    passed (IsUnit format) (field_or false (codes "system") flag_of d) _ (λ system.
+    then_keeps (AreFew 4096 IsText) (IsUnit format) (field_or [] (codes "units") (list_of what.Units 4096 (λ before. text_of)) d) _ (few_or_none IsText (codes "units") what.Units text_of d text_keeps) (λ units units_are.
+    then_keeps (AreFew 4096 (IsRecord format)) (IsUnit format) (field_or [] (codes "records") (list_of what.Records 4096 (λ before. record_of format)) d) _ (few_or_none (IsRecord format) (codes "records") what.Records (record_of format) d (record_keeps format)) (λ records records_are.
+    then_keeps (AreFew 4096 IsFilePlan) (IsUnit format) (field_or [] (codes "files") (list_of what.Files 4096 (λ before. file_of)) d) _ (few_or_none IsFilePlan (codes "files") what.Files file_of d file_keeps) (λ files files_are.
+    then_keeps (AreFew 4096 IsIncludePlan) (IsUnit format) (field_or [] (codes "includes") (list_of what.Includes 4096 (λ before. include_of)) d) _ (few_or_none IsIncludePlan (codes "includes") what.Includes include_of d include_keeps) (λ includes includes_are. (
+      record {
+        output = output_is;
+        main = main_is;
+        module_name = name_is;
+        units = units_are.1;
+        records = all_first IsRecordPlan (λ r. IsShortRecord r × IsRecordOf format r) records records_are.1;
+        files = files_are.1;
+        includes = includes_are.1;
+      },
+      (
+        record { units = units_are.0; records = records_are.0; files = files_are.0; includes = includes_are.0; each_record = all_first IsShortRecord (IsRecordOf format) records (limited format records records_are.1) },
+        all_second IsShortRecord (IsRecordOf format) records (limited format records records_are.1),
+      ),
+    ))))))))))

@@ -1,4 +1,5 @@
--- What every accepted script keeps: the limits of its lists, and the rules on its values.
+-- What every accepted script keeps: the rules on its values, the limits of its lists, and one format. The three stand apart, so that a plan that
+-- is made in another way can keep the rules alone.
 use Rattle.std.specs.Prelude.{◌≡◌, ℕ, ◌<◌, ◌≤◌, ◌^◌, List, [], length, map, true, bit_and}
 use Rattle.std.specs.List.{AllByRecursion, IsDistinct, filter}
 use Rattle.std.specs.Str.{bytes_eq}
@@ -59,7 +60,7 @@ pub record IsOccurrencePlan (symbols : List SymbolPlan) (plan : OccurrencePlan) 
   pub line : IsCoordinate plan.line
   pub col : IsCoordinate plan.col
   pub roles : AreRoles plan.roles
-  pub relations : AreFew 256 (IsRelationPlan symbols) plan.relations
+  pub relations : AllByRecursion (IsRelationPlan symbols) plan.relations
 
 -- no two symbols have the same USR
 abbrev pub HaveOwnUsrs : List SymbolPlan → Type 0
@@ -67,9 +68,9 @@ HaveOwnUsrs symbols = IsDistinct bytes_eq (map (λ symbol. symbol.usr) symbols)
 
 pub record IsRecordPlan (plan : RecordPlan) : Type 0 where
   pub path : IsText plan.path
-  pub symbols : AreFew 65536 (IsSymbolPlan plan.format) plan.symbols
+  pub symbols : AllByRecursion (IsSymbolPlan plan.format) plan.symbols
   pub own_usrs : HaveOwnUsrs plan.symbols
-  pub occurrences : AreFew 65536 (IsOccurrencePlan plan.symbols) plan.occurrences
+  pub occurrences : AllByRecursion (IsOccurrencePlan plan.symbols) plan.occurrences
 
 abbrev pub IsFilePlan : FilePlan → Type 0
 IsFilePlan plan = IsText plan.path
@@ -83,10 +84,33 @@ pub record IsUnitPlan (plan : UnitPlan) : Type 0 where
   pub output : IsText plan.output
   pub main : IsTextOrEmpty plan.main
   pub module_name : IsTextOrEmpty plan.«module»
-  pub units : AreFew 4096 IsText plan.units
-  pub records : AreFew 4096 IsRecordPlan plan.records
-  pub files : AreFew 4096 IsFilePlan plan.files
-  pub includes : AreFew 4096 IsIncludePlan plan.includes
+  pub units : AllByRecursion IsText plan.units
+  pub records : AllByRecursion IsRecordPlan plan.records
+  pub files : AllByRecursion IsFilePlan plan.files
+  pub includes : AllByRecursion IsIncludePlan plan.includes
+
+-- the limits of a plan's lists
+abbrev pub HasFewRelations : OccurrencePlan → Type 0
+HasFewRelations plan = length plan.relations ≤ 256
+
+pub record IsShortRecord (plan : RecordPlan) : Type 0 where
+  pub symbols : length plan.symbols ≤ 65536
+  pub occurrences : length plan.occurrences ≤ 65536
+  pub relations : AllByRecursion HasFewRelations plan.occurrences
+
+pub record IsShortUnit (plan : UnitPlan) : Type 0 where
+  pub units : length plan.units ≤ 4096
+  pub records : length plan.records ≤ 4096
+  pub files : length plan.files ≤ 4096
+  pub includes : length plan.includes ≤ 4096
+  pub each_record : AllByRecursion IsShortRecord plan.records
+
+-- the format of a plan's records
+abbrev pub IsRecordOf : Format → RecordPlan → Type 0
+IsRecordOf format plan = plan.format ≡ format
+
+abbrev pub IsUnitOf : Format → UnitPlan → Type 0
+IsUnitOf format plan = AllByRecursion (IsRecordOf format) plan.records
 
 -- a walk's depth is from 1 to 16
 abbrev pub IsWalk : List ℕ → ℕ → Type 0
@@ -112,8 +136,30 @@ IsAsk (query.Supertypes usr depth) = IsWalk usr depth
 IsAsk (query.Subtypes usr depth) = IsWalk usr depth
 IsAsk (query.Codegen codegen) = IsText codegen
 
+-- the ask for a code generation name is one of format Two alone
+abbrev pub IsAskOf : Format → Query → Type 0
+IsAskOf format (query.Def usr) = Unit {0}
+IsAskOf format (query.Refs usr) = Unit {0}
+IsAskOf format (query.Occ usr roles) = Unit {0}
+IsAskOf format (query.Rel usr roles) = Unit {0}
+IsAskOf format (query.Callers usr) = Unit {0}
+IsAskOf format (query.Overrides usr) = Unit {0}
+IsAskOf format (query.Name name) = Unit {0}
+IsAskOf format (query.Pattern text start end fold) = Unit {0}
+IsAskOf format (query.Symbols path) = Unit {0}
+IsAskOf format (query.Mains path) = Unit {0}
+IsAskOf format (query.Units path) = Unit {0}
+IsAskOf format (query.Includes path) = Unit {0}
+IsAskOf format (query.Includers path) = Unit {0}
+IsAskOf format (query.Incoming usr depth) = Unit {0}
+IsAskOf format (query.Outgoing usr depth) = Unit {0}
+IsAskOf format (query.Supertypes usr depth) = Unit {0}
+IsAskOf format (query.Subtypes usr depth) = Unit {0}
+IsAskOf format (query.Codegen codegen) = format ≡ Two
+
+-- a step that keeps the rules and the limits
 abbrev pub IsStep : Step → Type 0
-IsStep (Build plan) = IsUnitPlan plan
+IsStep (Build plan) = IsUnitPlan plan × IsShortUnit plan
 IsStep (Remove output) = IsText output
 IsStep Poll = Unit {0}
 IsStep Refresh = Unit {0}
@@ -124,7 +170,29 @@ IsStep Collect = Unit {0}
 abbrev pub IsLane : List Step → Type 0
 IsLane lane = AreFew 4096 IsStep lane
 
+-- a step of a script of the format
+abbrev pub IsStepOf : Format → Step → Type 0
+IsStepOf format (Build plan) = IsUnitOf format plan
+IsStepOf format (Remove output) = Unit {0}
+IsStepOf format Poll = Unit {0}
+IsStepOf format Refresh = Unit {0}
+IsStepOf format (Ask query) = IsAskOf format query
+IsStepOf format Release = Unit {0}
+IsStepOf format Collect = Unit {0}
+
+abbrev pub IsLaneOf : Format → List Step → Type 0
+IsLaneOf format lane = AllByRecursion (IsStepOf format) lane
+
+abbrev pub IsScriptOf : Format → Script → Type 0
+IsScriptOf format script = AllByRecursion (IsLaneOf format) script.lanes
+
+-- some format is the script's
+pub record HasFormat (script : Script) : Type 0 where
+  pub format : Format
+  pub is : IsScriptOf format script
+
 pub record IsAccepted (script : Script) : Type 0 where
   pub lanes : AreFew 16 IsLane script.lanes
   pub order : AreFew 65536 (λ lane. lane < length script.lanes) script.order
   pub one_poller : length (filter polls script.lanes) ≤ 1
+  pub one_format : HasFormat script

@@ -1,4 +1,5 @@
 pub mod Read
+pub mod Texts
 pub mod Usrs
 pub mod Tables
 pub mod Json

@@ -6,6 +6,8 @@ use Rattle.ix_types.specs.declared.format.Format.{Format}
 use Rattle.ix_types.specs.declared.format.Format.TheVariants.{One, Two}
 use Rattle.ix_types.specs.declared.row.Query.{Query}
 use Rattle.ix_types.specs.declared.row.Query.TheVariants as query
+use Rattle.ix_plan.specs.declared.steps.AskPlace.{AskPlace}
+use Rattle.ix_plan.specs.declared.steps.AskPlace.TheVariants.{Among, Alone}
 use Rattle.ix_plan.specs.declared.plan.Step.{Step}
 use Rattle.ix_plan.specs.declared.plan.Step.TheVariants.{Build, Remove, Poll, Refresh, Ask, Release, Collect}
 use Rattle.ix_plan.specs.declared.refusal.What.TheVariants as what
@@ -21,39 +23,44 @@ is_word word s = bytes_eq s word
 abbrev pub unknown_word : {A : Type 0} → List ℕ → Read A
 unknown_word name = within name bad_value
 
+-- the fields of an ask: `query` and those of its word, and among the steps of a lane `do`
+abbrev pub ask_fields : AskPlace → List (List ℕ) → List (List ℕ)
+ask_fields Among names = codes "do" ∷ codes "query" ∷ names
+ask_fields Alone names = codes "query" ∷ names
+
 -- an ask with one field, a text: `usr`, `path` or `codegen`
-unfoldable pub one_text : List ℕ → Data → Read (List ℕ)
-one_text name d = do
-  checked ← with_fields (codes "do" ∷ codes "query" ∷ name ∷ []) d
+unfoldable pub one_text : AskPlace → List ℕ → Data → Read (List ℕ)
+one_text at name d = do
+  checked ← with_fields (ask_fields at (name ∷ [])) d
   field name text_of d
 
 -- `usr`, `roles`
-unfoldable pub usr_and_roles : (Data → Read ℕ) → Data → Read (List ℕ × ℕ)
-usr_and_roles word d = do
-  checked ← with_fields (codes "do" ∷ codes "query" ∷ codes "usr" ∷ codes "roles" ∷ []) d
+unfoldable pub usr_and_roles : AskPlace → (Data → Read ℕ) → Data → Read (List ℕ × ℕ)
+usr_and_roles at word d = do
+  checked ← with_fields (ask_fields at (codes "usr" ∷ codes "roles" ∷ [])) d
   usr ← field (codes "usr") text_of d
   roles ← field (codes "roles") (some_bits_of word) d
   Ok (usr, roles)
 
 -- `usr`, `depth`, from 1 to 16
-unfoldable pub usr_and_depth : Data → Read (List ℕ × ℕ)
-usr_and_depth d = do
-  checked ← with_fields (codes "do" ∷ codes "query" ∷ codes "usr" ∷ codes "depth" ∷ []) d
+unfoldable pub usr_and_depth : AskPlace → Data → Read (List ℕ × ℕ)
+usr_and_depth at d = do
+  checked ← with_fields (ask_fields at (codes "usr" ∷ codes "depth" ∷ [])) d
   usr ← field (codes "usr") text_of d
   depth ← field (codes "depth") (count_of 16) d
   Ok (usr, depth)
 
 -- `name`, which may be empty
-unfoldable pub name_ask : Data → Read Query
-name_ask d = do
-  checked ← with_fields (codes "do" ∷ codes "query" ∷ codes "name" ∷ []) d
+unfoldable pub name_ask : AskPlace → Data → Read Query
+name_ask at d = do
+  checked ← with_fields (ask_fields at (codes "name" ∷ [])) d
   name ← field (codes "name") text_or_empty_of d
   Ok (query.Name name)
 
 -- `text`, `start` (false), `end` (false), `fold` (false)
-unfoldable pub pattern_ask : Data → Read Query
-pattern_ask d = do
-  checked ← with_fields (codes "do" ∷ codes "query" ∷ codes "text" ∷ codes "start" ∷ codes "end" ∷ codes "fold" ∷ []) d
+unfoldable pub pattern_ask : AskPlace → Data → Read Query
+pattern_ask at d = do
+  checked ← with_fields (ask_fields at (codes "text" ∷ codes "start" ∷ codes "end" ∷ codes "fold" ∷ [])) d
   text ← field (codes "text") text_of d
   start ← field_or false (codes "start") flag_of d
   end ← field_or false (codes "end") flag_of d
@@ -72,46 +79,52 @@ asked make read = read >>= λ text. Ok (make text)
 abbrev pub asked_two : (List ℕ → ℕ → Query) → Read (List ℕ × ℕ) → Read Query
 asked_two make read = read >>= λ pair. Ok (make pair.0 pair.1)
 
-unfoldable pub walk_by_word : List ℕ → Data → Read Query
-walk_by_word word d =
-    if is_word (codes "incoming") word then asked_two query.Incoming (usr_and_depth d)
-    else (if is_word (codes "outgoing") word then asked_two query.Outgoing (usr_and_depth d)
-    else (if is_word (codes "supertypes") word then asked_two query.Supertypes (usr_and_depth d)
-    else (if is_word (codes "subtypes") word then asked_two query.Subtypes (usr_and_depth d)
+unfoldable pub walk_by_word : AskPlace → List ℕ → Data → Read Query
+walk_by_word at word d =
+    if is_word (codes "incoming") word then asked_two query.Incoming (usr_and_depth at d)
+    else (if is_word (codes "outgoing") word then asked_two query.Outgoing (usr_and_depth at d)
+    else (if is_word (codes "supertypes") word then asked_two query.Supertypes (usr_and_depth at d)
+    else (if is_word (codes "subtypes") word then asked_two query.Subtypes (usr_and_depth at d)
     else unknown_word (codes "query"))))
 
-unfoldable pub path_by_word : List ℕ → Data → Read Query
-path_by_word word d =
-    if is_word (codes "symbols") word then asked query.Symbols (one_text (codes "path") d)
-    else (if is_word (codes "mains") word then asked query.Mains (one_text (codes "path") d)
-    else (if is_word (codes "units") word then asked query.Units (one_text (codes "path") d)
-    else (if is_word (codes "includes") word then asked query.Includes (one_text (codes "path") d)
-    else (if is_word (codes "includers") word then asked query.Includers (one_text (codes "path") d)
-    else walk_by_word word d))))
+unfoldable pub path_by_word : AskPlace → List ℕ → Data → Read Query
+path_by_word at word d =
+    if is_word (codes "symbols") word then asked query.Symbols (one_text at (codes "path") d)
+    else (if is_word (codes "mains") word then asked query.Mains (one_text at (codes "path") d)
+    else (if is_word (codes "units") word then asked query.Units (one_text at (codes "path") d)
+    else (if is_word (codes "includes") word then asked query.Includes (one_text at (codes "path") d)
+    else (if is_word (codes "includers") word then asked query.Includers (one_text at (codes "path") d)
+    else walk_by_word at word d))))
 
-unfoldable pub name_by_word : Format → List ℕ → Data → Read Query
-name_by_word format word d =
-    if is_word (codes "name") word then name_ask d
-    else (if is_word (codes "pattern") word then pattern_ask d
-    else (if is_word (codes "codegen") word && format_two format then asked query.Codegen (one_text (codes "codegen") d)
-    else path_by_word word d))
+unfoldable pub name_by_word : AskPlace → Format → List ℕ → Data → Read Query
+name_by_word at format word d =
+    if is_word (codes "name") word then name_ask at d
+    else (if is_word (codes "pattern") word then pattern_ask at d
+    else (if is_word (codes "codegen") word && format_two format then asked query.Codegen (one_text at (codes "codegen") d)
+    else path_by_word at word d))
 
 -- the ask of a word
-unfoldable pub ask_by_word : Format → List ℕ → Data → Read Query
-ask_by_word format word d =
-    if is_word (codes "def") word then asked query.Def (one_text (codes "usr") d)
-    else (if is_word (codes "refs") word then asked query.Refs (one_text (codes "usr") d)
-    else (if is_word (codes "occ") word then asked_two query.Occ (usr_and_roles role_of d)
-    else (if is_word (codes "rel") word then asked_two query.Rel (usr_and_roles relation_of d)
-    else (if is_word (codes "callers") word then asked query.Callers (one_text (codes "usr") d)
-    else (if is_word (codes "overrides") word then asked query.Overrides (one_text (codes "usr") d)
-    else name_by_word format word d)))))
+unfoldable pub ask_by_word : AskPlace → Format → List ℕ → Data → Read Query
+ask_by_word at format word d =
+    if is_word (codes "def") word then asked query.Def (one_text at (codes "usr") d)
+    else (if is_word (codes "refs") word then asked query.Refs (one_text at (codes "usr") d)
+    else (if is_word (codes "occ") word then asked_two query.Occ (usr_and_roles at role_of d)
+    else (if is_word (codes "rel") word then asked_two query.Rel (usr_and_roles at relation_of d)
+    else (if is_word (codes "callers") word then asked query.Callers (one_text at (codes "usr") d)
+    else (if is_word (codes "overrides") word then asked query.Overrides (one_text at (codes "usr") d)
+    else name_by_word at format word d)))))
 
 -- `query` is read before the fields are judged, and the word says which fields there are
-unfoldable pub ask_of : Format → Data → Read Query
-ask_of format d = do
+unfoldable pub ask_of : AskPlace → Format → Data → Read Query
+ask_of at format d = do
   word ← field (codes "query") string_of d
-  ask_by_word format word d
+  ask_by_word at format word d
+
+-- an ask that is no step of a script: one of format Two with no `do`
+unfoldable pub ask_alone_of : Data → Read Query
+ask_alone_of d = do
+  members ← object_of d
+  ask_of Alone Two d
 
 -- `unit`
 unfoldable pub build_of : Format → Data → Read Step
@@ -133,7 +146,7 @@ plain_step step d = with_fields (codes "do" ∷ []) d >>= λ checked. Ok step
 
 unfoldable pub ask_step : Format → Data → Read Step
 ask_step format d = do
-  query ← ask_of format d
+  query ← ask_of Among format d
   Ok (Ask query)
 
 -- the step of a word

@@ -108,7 +108,7 @@ pub fn list<C, T: Item<C>>(
 fn each<C, T: Item<C>>(alloc: Global, setting: &C, values: &[Value]) -> Result<Seq<T>, ScriptError>
     ensures { Gives result (in_order (λ before. T.of setting.now) one_more [] 0 (items_view values.now)) }
 {
-    let mut items = Vec::new(alloc);
+    let mut items = Vec::with_capacity(alloc, values.len())?;
     for (index, value) in values.iter().enumerate() {
         let item = within_item(alloc, index, T::read(alloc, setting, value))?;
         items.push(item)?;

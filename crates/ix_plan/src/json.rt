@@ -1,5 +1,5 @@
 //! Looking into a JSON value by the rules of reading order: objects and their fields, lists and their items.
-ghost use Rattle.std.specs.Prelude.{◌≡◌, ◌∷◌, ◌++◌, [], map, List, ℕ, string_bytes, IfOk, Ok, Err};
+ghost use Rattle.std.specs.Prelude.{◌≡◌, ◌∷◌, ◌++◌, ◌||◌, [], map, List, ℕ, string_bytes, IfOk, Ok, Err};
 ghost use Rattle.std.specs.BTreeMap.{keys};
 ghost use Rattle.std.specs.Fmt.{decimal};
 ghost use Rattle.std.specs.List.{list_any, list_all};
@@ -116,8 +116,20 @@ pub fn object(alloc: Global, value: &Value) -> Result<&Map<String, Value>, Scrip
 pub fn with_fields(alloc: Global, value: &Value, names: &[&str]) -> Result<(), ScriptError>
     ensures { Gives result (with_fields (map (λ name. name.now) names.now) (view value.now)) }
 {
+    with_more_fields(alloc, value, &[], names)
+}
+
+/// The same with names in two lists.
+pub fn with_more_fields(
+    alloc: Global,
+    value: &Value,
+    names: &[&str],
+    more: &[&str],
+) -> Result<(), ScriptError>
+    ensures { Gives result (with_fields (map (λ name. name.now) names.now ++ map (λ name. name.now) more.now) (view value.now)) }
+{
     let members = object(alloc, value)?;
-    known_fields(alloc, members, names)
+    known_fields(alloc, members, names, more)
 }
 
 #[tactic(auto, using(crate::proofs::Items::keys_among_members))]
@@ -125,10 +137,11 @@ fn known_fields(
     alloc: Global,
     members: &Map<String, Value>,
     names: &[&str],
+    more: &[&str],
 ) -> Result<(), ScriptError>
-    ensures { Gives result (known_fields (map (λ name. name.now) names.now) (members_view members.now.entries)) }
+    ensures { Gives result (known_fields (map (λ name. name.now) names.now ++ map (λ name. name.now) more.now) (members_view members.now.entries)) }
 {
-    if are_among(names, members) {
+    if are_among(names, more, members) {
         return Ok(());
     }
     Err(ScriptError::Refused(ScriptRefusal::BadField {
@@ -136,10 +149,21 @@ fn known_fields(
     }))
 }
 
-fn are_among(names: &[&str], members: &Map<String, Value>) -> bool
-    ensures { result ≡ list_all (λ key. list_any (λ name. bytes_eq name.now (string_bytes key)) names.now) (keys members.now) }
+fn are_among(names: &[&str], more: &[&str], members: &Map<String, Value>) -> bool
+    ensures { result ≡ list_all (λ key. list_any (λ name. bytes_eq name.now (string_bytes key)) names.now || list_any (λ name. bytes_eq name.now (string_bytes key)) more.now) (keys members.now) }
 {
-    members.keys().all(|key| is_among(names, key.as_str()))
+    members
+        .keys()
+        .all(|key| is_among_both(names, more, key.as_str()))
+}
+
+fn is_among_both(names: &[&str], more: &[&str], key: &str) -> bool
+    ensures { result ≡ (list_any (λ name. bytes_eq name.now key.now) names.now || list_any (λ name. bytes_eq name.now key.now) more.now) }
+{
+    if is_among(names, key) {
+        return true;
+    }
+    is_among(more, key)
 }
 
 fn is_among(names: &[&str], key: &str) -> bool

@@ -18,6 +18,7 @@ pub use plan::{
     UnitPlan,
 };
 pub use refusal::{Place, ScriptError, ScriptRefusal, What};
+pub use steps::read_ask;
 
 #[cfg(test)]
 mod tests;

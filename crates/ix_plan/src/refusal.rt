@@ -1,6 +1,8 @@
 //! Why a script is refused, and where.
-ghost use Rattle.std.specs.Prelude.{◌≡◌};
+ghost use Rattle.std.specs.Prelude.{◌≡◌, Some};
+ghost use Rattle.std.specs.Fmt.{DisplaysOnOk};
 ghost use Rattle.ix_plan.specs.declared.refusal.ScriptError.TheVariants.{Memory};
+ghost use Rattle.ix_plan.specs.Texts.{word_of_list, text_at, refusal_text, error_text};
 
 use ix_types::Seq;
 use std::alloc::{AllocError, AllocFailed};
@@ -68,7 +70,9 @@ impl<T: Drop> From<AllocFailed<T>> for ScriptError {
 
 impl What {
     /// The word of the list.
-    pub fn word(self) -> &'static str {
+    pub fn word(self) -> &'static str
+        ensures { result.now ≡ word_of_list self }
+    {
         match self {
             What::Lanes => "lanes",
             What::Steps => "steps",
@@ -86,6 +90,8 @@ impl What {
 }
 
 impl fmt::Display for ScriptRefusal {
+    ghost output = { λ refusal. Some (refusal_text refusal) };
+
     fn fmt<W: fmt::Write>(&self, f: &mut fmt::Formatter<W>) -> fmt::Result {
         match self {
             ScriptRefusal::NotJson => write!(f, "not JSON"),
@@ -97,7 +103,10 @@ impl fmt::Display for ScriptRefusal {
     }
 }
 
-fn write_at<W: fmt::Write>(f: &mut fmt::Formatter<W>, sort: &str, path: &[u8]) -> fmt::Result {
+/// What is wrong, and where.
+fn write_at<W: fmt::Write>(f: &mut fmt::Formatter<W>, sort: &str, path: &[u8]) -> fmt::Result
+    ensures { DisplaysOnOk W.write_str_gives f.old result (Some (text_at sort.now path.now)) f.new }
+{
     match str::from_utf8(path) {
         Ok(text) => write!(f, "{sort} at \"{text}\""),
         Err(_) => write!(f, "{sort}"),
@@ -105,6 +114,8 @@ fn write_at<W: fmt::Write>(f: &mut fmt::Formatter<W>, sort: &str, path: &[u8]) -
 }
 
 impl fmt::Display for ScriptError {
+    ghost output = { λ error. Some (error_text error) };
+
     fn fmt<W: fmt::Write>(&self, f: &mut fmt::Formatter<W>) -> fmt::Result {
         match self {
             ScriptError::Memory => write!(f, "memory"),

@@ -1,19 +1,21 @@
 //! Reading steps and asks from a JSON value, by their words.
-ghost use Rattle.std.specs.Prelude.{◌≡◌, List, ℕ, codes, Bool};
+ghost use Rattle.std.specs.Prelude.{◌≡◌, List, ℕ, map, codes, Bool, IfOk, Ok, Err};
 ghost use Rattle.serde_json.specs.View.{view};
 ghost use Rattle.ix_plan.specs.Read.{Read, Gives, GivesAs};
-ghost use Rattle.ix_plan.specs.Json.{field};
+ghost use Rattle.ix_plan.specs.Json.{field, with_fields};
 ghost use Rattle.ix_plan.specs.Values.{string_of, bit_of, some_bits_of};
-ghost use Rattle.ix_plan.specs.Steps.{unknown_word, one_text, usr_and_roles, usr_and_depth, name_ask, pattern_ask, walk_by_word, path_by_word, name_by_word, ask_by_word, ask_of, build_of, remove_of, plain_step, ask_step, step_by_word, step_of, lane_of};
+ghost use Rattle.ix_plan.specs.Steps.{unknown_word, ask_fields, one_text, usr_and_roles, usr_and_depth, name_ask, pattern_ask, walk_by_word, path_by_word, name_by_word, ask_by_word, ask_of, ask_alone_of, build_of, remove_of, plain_step, ask_step, step_by_word, step_of, lane_of};
+ghost use Rattle.ix_plan.specs.Keeps.{IsAsk};
 
 use crate::fields::{
     Item, count_field, flag_or_false, list, roles_field, text_field, text_or_empty_field,
 };
-use crate::json::{bad_value, member, object, with_fields, within};
+use crate::json::{bad_value, member, object, with_fields, with_more_fields, within};
 use crate::plan::Step;
-use crate::refusal::{ScriptError, What};
+use crate::refusal::{ScriptError, ScriptRefusal, What};
 use crate::units::{Setting, unit};
 use crate::values::{WordSort, string};
+use crate::words::Words;
 use ix_types::{Format, Query, Roles, Seq, Text};
 use serde_json::Value;
 use std::alloc::Global;
@@ -23,6 +25,28 @@ const MAX_STEPS: usize = 4096;
 
 /// The greatest depth of a walk.
 const MAX_DEPTH: u32 = 16;
+
+/// Where an ask stands: among the steps of a lane, with its `do`, or alone.
+#[derive(Clone, Copy, Debug, PartialEq, Eq)]
+pub enum AskPlace {
+    Among,
+    Alone,
+}
+
+/// Refuses a value that isn't an object, and an ask with a field that its word doesn't have.
+fn with_ask_fields(
+    alloc: Global,
+    at: AskPlace,
+    value: &Value,
+    names: &[&str],
+) -> Result<(), ScriptError>
+    ensures { Gives result (with_fields (ask_fields at (map (λ name. name.now) names.now)) (view value.now)) }
+{
+    match at {
+        AskPlace::Among => with_more_fields(alloc, value, &["do", "query"], names),
+        AskPlace::Alone => with_more_fields(alloc, value, &["query"], names),
+    }
+}
 
 /// A field whose value is a string.
 fn word_field<'v>(alloc: Global, value: &'v Value, name: &str) -> Result<&'v str, ScriptError>
@@ -44,10 +68,10 @@ fn unknown_word<T: Drop>(alloc: Global, name: &str) -> Result<T, ScriptError>
 
 /// The one field of an ask, a text.
 #[tactic(auto, unfolding(crate::specs::Steps::one_text))]
-fn one_text(alloc: Global, value: &Value, name: &str) -> Result<Text, ScriptError>
-    ensures { Gives result (one_text name.now (view value.now)) }
+fn one_text(alloc: Global, at: AskPlace, value: &Value, name: &str) -> Result<Text, ScriptError>
+    ensures { Gives result (one_text at name.now (view value.now)) }
 {
-    with_fields(alloc, value, &["do", "query", name])?;
+    with_ask_fields(alloc, at, value, &[name])?;
     text_field(alloc, value, name)
 }
 
@@ -55,13 +79,14 @@ fn one_text(alloc: Global, value: &Value, name: &str) -> Result<Text, ScriptErro
 #[tactic(auto, unfolding(crate::specs::Steps::usr_and_roles))]
 fn usr_and_roles(
     alloc: Global,
+    at: AskPlace,
     setting: &Setting,
     value: &Value,
     sort: WordSort,
 ) -> Result<(Text, Roles), ScriptError>
-    ensures { Gives result (usr_and_roles (bit_of sort) (view value.now)) }
+    ensures { Gives result (usr_and_roles at (bit_of sort) (view value.now)) }
 {
-    with_fields(alloc, value, &["do", "query", "usr", "roles"])?;
+    with_ask_fields(alloc, at, value, &["usr", "roles"])?;
     let usr = text_field(alloc, value, "usr")?;
     let roles = roles_field(alloc, &setting.words, value, sort)?;
     Ok((usr, roles))
@@ -69,33 +94,29 @@ fn usr_and_roles(
 
 /// The fields of a walk.
 #[tactic(auto, unfolding(crate::specs::Steps::usr_and_depth))]
-fn usr_and_depth(alloc: Global, value: &Value) -> Result<(Text, u32), ScriptError>
-    ensures { Gives result (usr_and_depth (view value.now)) }
+fn usr_and_depth(alloc: Global, at: AskPlace, value: &Value) -> Result<(Text, u32), ScriptError>
+    ensures { Gives result (usr_and_depth at (view value.now)) }
 {
-    with_fields(alloc, value, &["do", "query", "usr", "depth"])?;
+    with_ask_fields(alloc, at, value, &["usr", "depth"])?;
     let usr = text_field(alloc, value, "usr")?;
     let depth = count_field(alloc, value, "depth", MAX_DEPTH)?;
     Ok((usr, depth))
 }
 
 #[tactic(auto, unfolding(crate::specs::Steps::name_ask))]
-fn name_ask(alloc: Global, value: &Value) -> Result<Query, ScriptError>
-    ensures { Gives result (name_ask (view value.now)) }
+fn name_ask(alloc: Global, at: AskPlace, value: &Value) -> Result<Query, ScriptError>
+    ensures { Gives result (name_ask at (view value.now)) }
 {
-    with_fields(alloc, value, &["do", "query", "name"])?;
+    with_ask_fields(alloc, at, value, &["name"])?;
     let name = text_or_empty_field(alloc, value, "name")?;
     Ok(Query::Name { name })
 }
 
 #[tactic(auto, unfolding(crate::specs::Steps::pattern_ask))]
-fn pattern_ask(alloc: Global, value: &Value) -> Result<Query, ScriptError>
-    ensures { Gives result (pattern_ask (view value.now)) }
+fn pattern_ask(alloc: Global, at: AskPlace, value: &Value) -> Result<Query, ScriptError>
+    ensures { Gives result (pattern_ask at (view value.now)) }
 {
-    with_fields(
-        alloc,
-        value,
-        &["do", "query", "text", "start", "end", "fold"],
-    )?;
+    with_ask_fields(alloc, at, value, &["text", "start", "end", "fold"])?;
     let text = text_field(alloc, value, "text")?;
     let start = flag_or_false(alloc, value, "start")?;
     let end = flag_or_false(alloc, value, "end")?;
@@ -109,116 +130,146 @@ fn pattern_ask(alloc: Global, value: &Value) -> Result<Query, ScriptError>
 }
 
 #[tactic(auto, unfolding(crate::specs::Steps::walk_by_word))]
-fn walk(alloc: Global, word: &str, value: &Value) -> Result<Query, ScriptError>
-    ensures { Gives result (walk_by_word word.now (view value.now)) }
+fn walk(alloc: Global, at: AskPlace, word: &str, value: &Value) -> Result<Query, ScriptError>
+    ensures { Gives result (walk_by_word at word.now (view value.now)) }
 {
     if word == "incoming" {
-        let (usr, depth) = usr_and_depth(alloc, value)?;
+        let (usr, depth) = usr_and_depth(alloc, at, value)?;
         return Ok(Query::Incoming { usr, depth });
     }
     if word == "outgoing" {
-        let (usr, depth) = usr_and_depth(alloc, value)?;
+        let (usr, depth) = usr_and_depth(alloc, at, value)?;
         return Ok(Query::Outgoing { usr, depth });
     }
     if word == "supertypes" {
-        let (usr, depth) = usr_and_depth(alloc, value)?;
+        let (usr, depth) = usr_and_depth(alloc, at, value)?;
         return Ok(Query::Supertypes { usr, depth });
     }
     if word == "subtypes" {
-        let (usr, depth) = usr_and_depth(alloc, value)?;
+        let (usr, depth) = usr_and_depth(alloc, at, value)?;
         return Ok(Query::Subtypes { usr, depth });
     }
     unknown_word(alloc, "query")
 }
 
 #[tactic(auto, unfolding(crate::specs::Steps::path_by_word))]
-fn path_ask(alloc: Global, word: &str, value: &Value) -> Result<Query, ScriptError>
-    ensures { Gives result (path_by_word word.now (view value.now)) }
+fn path_ask(alloc: Global, at: AskPlace, word: &str, value: &Value) -> Result<Query, ScriptError>
+    ensures { Gives result (path_by_word at word.now (view value.now)) }
 {
     if word == "symbols" {
-        let path = one_text(alloc, value, "path")?;
+        let path = one_text(alloc, at, value, "path")?;
         return Ok(Query::Symbols { path });
     }
     if word == "mains" {
-        let path = one_text(alloc, value, "path")?;
+        let path = one_text(alloc, at, value, "path")?;
         return Ok(Query::Mains { path });
     }
     if word == "units" {
-        let path = one_text(alloc, value, "path")?;
+        let path = one_text(alloc, at, value, "path")?;
         return Ok(Query::Units { path });
     }
     if word == "includes" {
-        let path = one_text(alloc, value, "path")?;
+        let path = one_text(alloc, at, value, "path")?;
         return Ok(Query::Includes { path });
     }
     if word == "includers" {
-        let path = one_text(alloc, value, "path")?;
+        let path = one_text(alloc, at, value, "path")?;
         return Ok(Query::Includers { path });
     }
-    walk(alloc, word, value)
+    walk(alloc, at, word, value)
 }
 
 #[tactic(auto, unfolding(crate::specs::Steps::name_by_word))]
-fn named_ask(alloc: Global, format: Format, word: &str, value: &Value) -> Result<Query, ScriptError>
-    ensures { Gives result (name_by_word format word.now (view value.now)) }
+fn named_ask(
+    alloc: Global,
+    at: AskPlace,
+    format: Format,
+    word: &str,
+    value: &Value,
+) -> Result<Query, ScriptError>
+    ensures { Gives result (name_by_word at format word.now (view value.now)) }
 {
     if word == "name" {
-        return name_ask(alloc, value);
+        return name_ask(alloc, at, value);
     }
     if word == "pattern" {
-        return pattern_ask(alloc, value);
+        return pattern_ask(alloc, at, value);
     }
     if word == "codegen" && format == Format::Two {
-        let codegen = one_text(alloc, value, "codegen")?;
+        let codegen = one_text(alloc, at, value, "codegen")?;
         return Ok(Query::Codegen { codegen });
     }
-    path_ask(alloc, word, value)
+    path_ask(alloc, at, word, value)
 }
 
 /// The ask of a word.
 #[tactic(auto, unfolding(crate::specs::Steps::ask_by_word))]
 fn ask_by_word(
     alloc: Global,
+    at: AskPlace,
     setting: &Setting,
     word: &str,
     value: &Value,
 ) -> Result<Query, ScriptError>
-    ensures { Gives result (ask_by_word setting.now.format word.now (view value.now)) }
+    ensures { Gives result (ask_by_word at setting.now.format word.now (view value.now)) }
 {
     if word == "def" {
-        let usr = one_text(alloc, value, "usr")?;
+        let usr = one_text(alloc, at, value, "usr")?;
         return Ok(Query::Def { usr });
     }
     if word == "refs" {
-        let usr = one_text(alloc, value, "usr")?;
+        let usr = one_text(alloc, at, value, "usr")?;
         return Ok(Query::Refs { usr });
     }
     if word == "occ" {
-        let (usr, roles) = usr_and_roles(alloc, setting, value, WordSort::Role)?;
+        let (usr, roles) = usr_and_roles(alloc, at, setting, value, WordSort::Role)?;
         return Ok(Query::Occ { usr, roles });
     }
     if word == "rel" {
-        let (usr, roles) = usr_and_roles(alloc, setting, value, WordSort::Relation)?;
+        let (usr, roles) = usr_and_roles(alloc, at, setting, value, WordSort::Relation)?;
         return Ok(Query::Rel { usr, roles });
     }
     if word == "callers" {
-        let usr = one_text(alloc, value, "usr")?;
+        let usr = one_text(alloc, at, value, "usr")?;
         return Ok(Query::Callers { usr });
     }
     if word == "overrides" {
-        let usr = one_text(alloc, value, "usr")?;
+        let usr = one_text(alloc, at, value, "usr")?;
         return Ok(Query::Overrides { usr });
     }
-    named_ask(alloc, setting.format, word, value)
+    named_ask(alloc, at, setting.format, word, value)
 }
 
-/// The ask of a step.
+/// An ask.
 #[tactic(auto, unfolding(crate::specs::Steps::ask_of))]
-pub fn ask(alloc: Global, setting: &Setting, value: &Value) -> Result<Query, ScriptError>
-    ensures { Gives result (ask_of setting.now.format (view value.now)) }
+fn ask(alloc: Global, at: AskPlace, setting: &Setting, value: &Value) -> Result<Query, ScriptError>
+    ensures { Gives result (ask_of at setting.now.format (view value.now)) }
 {
     let word = word_field(alloc, value, "query")?;
-    ask_by_word(alloc, setting, word, value)
+    ask_by_word(alloc, at, setting, word, value)
+}
+
+/// An ask that is no step of a script.
+#[tactic(auto, unfolding(crate::specs::Steps::ask_alone_of))]
+fn ask_alone(alloc: Global, value: &Value) -> Result<Query, ScriptError>
+    ensures { Gives result (ask_alone_of (view value.now)) }
+{
+    object(alloc, value)?;
+    let setting = Setting {
+        words: Words::new(),
+        format: Format::Two,
+    };
+    ask(alloc, AskPlace::Alone, &setting, value)
+}
+
+/// The ask that a value spells by itself, as in a script of format 2 but with no `do`, or the first refusal in reading order. Places are those
+/// from the value on.
+pub fn read_ask(alloc: Global, value: &Value) -> Result<Query, ScriptError>
+    ensures accepted { IfOk result (λ ask. ask_alone_of (view value.now) ≡ Ok ask) }
+    ensures refused { (r : ScriptRefusal) → result ≡ Err (ScriptError.Refused r) → ask_alone_of (view value.now) ≡ Err r }
+    ensures kept { IfOk result IsAsk }
+{
+    ask_alone(alloc, value)
 }
 
 #[tactic(auto, unfolding(crate::specs::Steps::build_of))]
@@ -252,7 +303,7 @@ fn plain(alloc: Global, value: &Value, step: Step) -> Result<Step, ScriptError>
 fn ask_step(alloc: Global, setting: &Setting, value: &Value) -> Result<Step, ScriptError>
     ensures { Gives result (ask_step setting.now.format (view value.now)) }
 {
-    let query = ask(alloc, setting, value)?;
+    let query = ask(alloc, AskPlace::Among, setting, value)?;
     Ok(Step::Ask(query))
 }
 

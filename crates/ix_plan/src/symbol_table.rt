@@ -30,14 +30,14 @@ impl Model for SymbolTable {
 }
 
 impl SymbolTable {
-    /// No symbol.
-    pub fn new(alloc: Global) -> SymbolTable
-        ensures { result ≡ [] }
+    /// No symbol, with room for so many.
+    pub fn new(alloc: Global, room: usize) -> Result<SymbolTable, AllocError>
+        ensures { IfOk result (λ table. table ≡ []) }
     {
-        SymbolTable {
-            symbols: Vec::new(alloc),
+        Ok(SymbolTable {
+            symbols: Vec::with_capacity(alloc, room)?,
             usrs: BTreeSet::new(alloc),
-        }
+        })
     }
 
     /// Whether a symbol has the USR.

@@ -266,7 +266,8 @@ fn each_symbol(
 ) -> Result<SymbolTable, ScriptError>
     ensures { Gives result (in_order (λ before. symbol_of setting.now.format (is_usr_of before)) one_more [] 0 (items_view values.now)) }
 {
-    let mut table = SymbolTable::new(alloc);
+    let empty = SymbolTable::new(alloc, values.len())?;
+    let mut table = empty;
     for (index, value) in values.iter().enumerate() {
         let symbol = within_item(alloc, index, symbol(alloc, setting, &table, value))?;
         table = table.with(alloc, symbol)?;
@@ -291,7 +292,7 @@ fn symbols_or_none(
 {
     match value.get("symbols") {
         Some(found) => within(alloc, "symbols", symbols(alloc, setting, found)),
-        None => Ok(SymbolTable::new(alloc)),
+        None => Ok(SymbolTable::new(alloc, 0)?),
     }
 }
 

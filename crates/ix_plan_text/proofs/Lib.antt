@@ -1,0 +1,4 @@
+mod Basics
+mod Marks
+mod PlansBack
+mod StepsBack
