@@ -1,9 +1,14 @@
+pub mod Agreement
 pub mod Answered
 pub mod Batches
+pub mod Folding
+pub mod Joined
 pub mod Loops
 pub mod Members
 pub mod NeededBy
+pub mod NextNeed
 pub mod Orders
+pub mod Places
 pub mod Rising
 pub mod Selected
 pub mod Steps

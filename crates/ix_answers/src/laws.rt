@@ -1,22 +1,23 @@
 //! Laws of the definitions, each the contract of a function that does nothing.
-ghost use Rattle.std.specs.Prelude.{◌≡◌, ◌≤◌, ◌<◌, ◌+◌, ◌⊎◌, ◌↔◌, ℕ, Bool, true, false, List, [], ◌∷◌, Some, None, Contains};
+ghost use Rattle.std.specs.Prelude.{◌≡◌, ◌≤◌, ◌<◌, ◌+◌, ◌⊎◌, ◌↔◌, ℕ, Bool, true, false, List, [], ◌∷◌, ◌++◌, length, slice_get, Some, None, Contains};
 ghost use Rattle.ix_types.specs.declared.row.EdgeRow.{EdgeRow};
 ghost use Rattle.ix_types.specs.declared.row.OccRow.{OccRow};
 ghost use Rattle.ix_types.specs.declared.row.Row.{Row};
 ghost use Rattle.ix_types.specs.Row.{text_cmp};
 ghost use Rattle.ix_model.specs.Answer.{IsAmongDefinitions};
 ghost use Rattle.ix_model.specs.Rows.{rows};
-ghost use Rattle.ix_model.specs.Units.{Units, units_after, units_after_last};
-ghost use Rattle.ix_answers.specs.Batches.{unit_of, LeadsTo, HaveOneValue};
+ghost use Rattle.ix_model.specs.Units.{Units, NamesRise, units_after, units_after_last};
+ghost use Rattle.ix_answers.specs.Agreement.{AgreeOnRecords, HasValuesByName};
+ghost use Rattle.ix_answers.specs.Batches.{unit_of, IsUntouched, LeadsTo, HaveOneValue};
 ghost use Rattle.ix_answers.specs.Answers.{answer};
-ghost use Rattle.ix_answers.specs.Lookups.{providers, related, named, names, coded, in_path, paths, listing};
+ghost use Rattle.ix_answers.specs.Lookups.{providers, related, named, names, coded, in_path, paths, listing, name_at, unit_at};
 ghost use Rattle.ix_answers.specs.Meanings.{IsRecord, IsProvider, IsRelated, IsNamed, IsName, IsCoded, ListsUnder, IsListing, IsMain, IsIncluded, IsReference, IsOccurrence, IsRelation, IsCall, IsOverride, IsDeclaredIn, IsDefinedByName, IsDefinedByCodegen, IsDefinedByPattern, HasText, IsRowOf, IsPathOf, IsUnitOf, IsEdgeOf};
 ghost use Rattle.ix_answers.specs.NeedsMeaning.{IsNeededByName, IsNeededByCodegen, IsNeededByPattern, IsNeededByWalk};
 ghost use Rattle.ix_answers.specs.Needs.{need_of, next_need, lacking_of, level_needs, walk_needs};
-ghost use Rattle.ix_answers.specs.Rising.{IsSortedAnswer, AreLoaded, IsLeastLacking};
+ghost use Rattle.ix_answers.specs.Rising.{IsSortedAnswer, AreLoaded, IsLess, IsLeastLacking};
 ghost use Rattle.std.specs.List.Sorted.{IsStrictlySortedBy};
 ghost use Rattle.ix_answers.specs.Paths.{IsReached, turned};
-ghost use Rattle.ix_answers.specs.Pattern.{folded_byte, stands_at};
+ghost use Rattle.ix_answers.specs.Pattern.{folded_byte, folded, stands_at};
 ghost use Rattle.ix_answers.specs.Walks.{edges_to};
 
 use crate::walks::Walk;
@@ -148,4 +149,58 @@ pub fn needs_are_those()
     ensures units { (path : List ℕ) (units : Units) → need_of (Query.Units path) units ≡ [] }
     ensures includes { (path : List ℕ) (units : Units) → need_of (Query.Includes path) units ≡ [] }
     ensures includers { (path : List ℕ) (units : Units) → need_of (Query.Includers path) units ≡ [] }
+{}
+
+/// For a query that is no walk the needed record that comes next is the least one that isn't loaded.
+pub fn the_least_need_comes_next()
+    ensures defined { (usr : List ℕ) (units : Units) (loaded : List (List ℕ)) (name : List ℕ) → (next_need (Query.Def usr) units loaded ≡ Some name) ↔ IsLeastLacking loaded (need_of (Query.Def usr) units) name }
+    ensures refs { (usr : List ℕ) (units : Units) (loaded : List (List ℕ)) (name : List ℕ) → (next_need (Query.Refs usr) units loaded ≡ Some name) ↔ IsLeastLacking loaded (need_of (Query.Refs usr) units) name }
+    ensures occ { (usr : List ℕ) (roles : ℕ) (units : Units) (loaded : List (List ℕ)) (name : List ℕ) → (next_need (Query.Occ usr roles) units loaded ≡ Some name) ↔ IsLeastLacking loaded (need_of (Query.Occ usr roles) units) name }
+    ensures rel { (usr : List ℕ) (roles : ℕ) (units : Units) (loaded : List (List ℕ)) (name : List ℕ) → (next_need (Query.Rel usr roles) units loaded ≡ Some name) ↔ IsLeastLacking loaded (need_of (Query.Rel usr roles) units) name }
+    ensures callers { (usr : List ℕ) (units : Units) (loaded : List (List ℕ)) (name : List ℕ) → (next_need (Query.Callers usr) units loaded ≡ Some name) ↔ IsLeastLacking loaded (need_of (Query.Callers usr) units) name }
+    ensures overrides { (usr : List ℕ) (units : Units) (loaded : List (List ℕ)) (name : List ℕ) → (next_need (Query.Overrides usr) units loaded ≡ Some name) ↔ IsLeastLacking loaded (need_of (Query.Overrides usr) units) name }
+    ensures symbols { (path : List ℕ) (units : Units) (loaded : List (List ℕ)) (name : List ℕ) → (next_need (Query.Symbols path) units loaded ≡ Some name) ↔ IsLeastLacking loaded (need_of (Query.Symbols path) units) name }
+    ensures name { (of : List ℕ) (units : Units) (loaded : List (List ℕ)) (name : List ℕ) → (next_need (Query.Name of) units loaded ≡ Some name) ↔ IsLeastLacking loaded (need_of (Query.Name of) units) name }
+    ensures codegen { (codegen : List ℕ) (units : Units) (loaded : List (List ℕ)) (name : List ℕ) → (next_need (Query.Codegen codegen) units loaded ≡ Some name) ↔ IsLeastLacking loaded (need_of (Query.Codegen codegen) units) name }
+    ensures pattern { (text : List ℕ) (start end fold : Bool) (units : Units) (loaded : List (List ℕ)) (name : List ℕ) → (next_need (Query.Pattern text start end fold) units loaded ≡ Some name) ↔ IsLeastLacking loaded (need_of (Query.Pattern text start end fold) units) name }
+{}
+
+/// For a walk what comes next is the least one that the first level lacks of which not all are loaded, if that level is below the depth.
+pub fn the_first_level_comes_next()
+    ensures incoming { (usr : List ℕ) (units : Units) (loaded : List (List ℕ)) (n depth : ℕ) (name : List ℕ) → n < depth → ((m : ℕ) → m < n → AreLoaded loaded (level_needs Walk.Incoming usr units m))
+        → IsLeastLacking loaded (level_needs Walk.Incoming usr units n) name → next_need (Query.Incoming usr depth) units loaded ≡ Some name }
+    ensures outgoing { (usr : List ℕ) (units : Units) (loaded : List (List ℕ)) (n depth : ℕ) (name : List ℕ) → n < depth → ((m : ℕ) → m < n → AreLoaded loaded (level_needs Walk.Outgoing usr units m))
+        → IsLeastLacking loaded (level_needs Walk.Outgoing usr units n) name → next_need (Query.Outgoing usr depth) units loaded ≡ Some name }
+    ensures supertypes { (usr : List ℕ) (units : Units) (loaded : List (List ℕ)) (n depth : ℕ) (name : List ℕ) → n < depth → ((m : ℕ) → m < n → AreLoaded loaded (level_needs Walk.Supertypes usr units m))
+        → IsLeastLacking loaded (level_needs Walk.Supertypes usr units n) name → next_need (Query.Supertypes usr depth) units loaded ≡ Some name }
+    ensures subtypes { (usr : List ℕ) (units : Units) (loaded : List (List ℕ)) (n depth : ℕ) (name : List ℕ) → n < depth → ((m : ℕ) → m < n → AreLoaded loaded (level_needs Walk.Subtypes usr units m))
+        → IsLeastLacking loaded (level_needs Walk.Subtypes usr units n) name → next_need (Query.Subtypes usr depth) units loaded ≡ Some name }
+{}
+
+/// Folding changes each byte by itself: a folded text is as long, and has the folded byte at each place. With no folding a text stays.
+pub fn folding_is_of_each_byte()
+    ensures length { (text : List ℕ) → length (folded true text) ≡ length text }
+    ensures each { (text : List ℕ) (place byte : ℕ) → slice_get text place ≡ Some byte → slice_get (folded true text) place ≡ Some (folded_byte byte) }
+    ensures plain { (text : List ℕ) → folded false text ≡ text }
+{}
+
+/// Two batches, one after the other, lead where both together lead, if the second puts and removes no name of the first.
+pub fn batches_join()
+    ensures { (puts more : List UnitPut) (gone more_gone : List (List ℕ)) (before middle after : Units) → LeadsTo puts gone before middle → LeadsTo more more_gone middle after
+        → ((put : UnitPut) → Contains puts put → IsUntouched more more_gone put.name) → ((name : List ℕ) → Contains gone name → IsUntouched more more_gone name)
+        → LeadsTo (puts ++ more) (gone ++ more_gone) before after }
+{}
+
+/// Records have one value over two maps where they have one within each and across. So it is where each has the value of its name, and
+/// over a unit with one record.
+pub fn records_have_one_value()
+    ensures parts { (before after : Units) → AgreeOnRecords before before → AgreeOnRecords after after → AgreeOnRecords before after → HaveOneValue before after }
+    ensures by_name { (value_of : List ℕ → RecordValue) (before after : Units) → HasValuesByName value_of before → HasValuesByName value_of after → HaveOneValue before after }
+    ensures alone { (name : List ℕ) (stored : StoredUnit) (value : RecordValue) → stored.values ≡ value ∷ [] → HaveOneValue ((name, stored) ∷ []) ((name, stored) ∷ []) }
+{}
+
+/// A name at a lesser place comes before one at a greater, and so it is with units where their names rise.
+pub fn places_are_in_order()
+    ensures names { (units : Units) (first second : ℕ) (low high : List ℕ) → first < second → name_at first units ≡ Some low → name_at second units ≡ Some high → IsLess low high }
+    ensures units { (units : Units) (first second : ℕ) (low high : List ℕ × StoredUnit) → NamesRise units → first < second → unit_at first units ≡ Some low → unit_at second units ≡ Some high → IsLess low.0 high.0 }
 {}

@@ -1,0 +1,5 @@
+pub mod Answered
+pub mod Needed
+pub mod Rows
+pub mod Sets
+pub mod Sufficing

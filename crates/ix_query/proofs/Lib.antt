@@ -1,0 +1,4 @@
+pub mod Grown
+pub mod Lifted
+pub mod Passed
+pub mod Sorted
