@@ -1,0 +1,11 @@
+pub mod Sorted
+pub mod Zips
+pub mod Found
+pub mod Recounts
+pub mod Merging
+pub mod Revising
+pub mod Canon
+pub mod Netting
+pub mod Ordered
+pub mod Ends
+pub mod Singles

@@ -1,0 +1,5 @@
+pub mod Counted
+pub mod Parting
+pub mod Recounting
+pub mod Stepping
+pub mod Gathering

@@ -1,0 +1,10 @@
+pub mod Keyed
+pub mod Balancing
+pub mod Members
+pub mod Inserted
+pub mod Finding
+pub mod Recorded
+pub mod Joined
+pub mod First
+pub mod Pathed
+pub mod Door

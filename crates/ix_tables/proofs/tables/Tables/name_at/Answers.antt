@@ -1,0 +1,12 @@
+use Rattle.std.proofs.Common.{sym, ap, subst, ◌∙◌}
+use Rattle.std.specs.List.{slice_get}
+use Rattle.ix_types.specs.Row.{text_cmp}
+use Rattle.ix_pages.specs.Pairs.{IsRising}
+use Rattle.ix_outline.specs.Known.{Known, AreTables}
+use Rattle.ix_tables.proofs.tables.Tables.name_at.Goals as goal
+
+pub returns : goal.returns
+returns c = λ units are.
+    c.name_at.ensures ∙ ap (λ ks. slice_get ks c.args.place) (c.what_is_given_is_what_look_ups_find.ensures.names units (record { units = c.self.inside.units; outlines = c.self.inside.records })
+    (subst (λ (k : Known). AreTables units k) (sym c.self.view_is) are)
+    (subst (λ es. IsRising text_cmp es) c.map-outlines.ensures c.len-rising.ensures.rises))

@@ -1,0 +1,4 @@
+pub mod Sharing
+pub mod Items
+pub mod Steps
+pub mod Kept
