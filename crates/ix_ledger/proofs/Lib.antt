@@ -1,0 +1,7 @@
+pub mod Maps
+pub mod NeedLists
+pub mod States
+pub mod Making
+pub mod Freshly
+pub mod MayBeMade
+pub mod FreshNames
