@@ -1,0 +1,4 @@
+pub mod Given
+pub mod Holds
+pub mod Stamps
+pub mod Syncs

@@ -1,0 +1,10 @@
+pub mod Beginning
+pub mod ByName
+pub mod Calls
+pub mod FoundWhole
+pub mod Joined
+pub mod MachineSteps
+pub mod Moments
+pub mod Prefix
+pub mod Shapes
+pub mod Whole
