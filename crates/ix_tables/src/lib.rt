@@ -9,8 +9,6 @@ mod moves;
 mod outlines;
 mod records;
 mod tables;
-#[cfg(test)]
-mod tests;
 mod units;
 
 pub use outlines::Outlines;
