@@ -2,6 +2,7 @@ pub mod Counting
 pub mod Following
 pub mod Naming
 pub mod Listed
+pub mod Tallying
 pub mod Loose
 pub mod Leasing
 pub mod Reasons

@@ -1,5 +1,6 @@
 pub mod Counts
 pub mod Listing
+pub mod Tallied
 pub mod Guarding
 pub mod Protection
 pub mod Reasons

@@ -1,7 +1,8 @@
 -- The need list of some units.
-use Rattle.std.specs.Prelude.{◌≡◌, ℕ, List, map}
+use Rattle.std.specs.Prelude.{◌≡◌, ℕ, List, [], map}
 use Rattle.std.specs.List.{flat_map}
 use Rattle.ix_unit.specs.declared.value.UnitValue.{UnitValue}
+use Rattle.ix_unit.specs.declared.batch.UnitPut.{UnitPut}
 use Rattle.ix_model.specs.Units.{Units, needs}
 use Rattle.ix_guard.specs.Counts.{Counts, count_at, times, AreCounts}
 
@@ -12,6 +13,10 @@ names_in unit = map (λ dep. dep.name) unit.records
 -- the same of all units
 abbrev pub names_in_all : Units → List (List ℕ)
 names_in_all units = flat_map (λ entry. map (λ dep. dep.name) entry.1.unit.records) units
+
+-- the units that were put, by name, with no values
+abbrev pub units_put : List UnitPut → Units
+units_put puts = map (λ put. (put.name, record { unit = put.unit.value; values = [] })) puts
 
 -- the names that the units need, rising, each with the number of record dependencies that have it
 unfoldable pub need_list_of : Units → Counts

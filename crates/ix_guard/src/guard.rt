@@ -1,5 +1,5 @@
 //! The guard: which records a put must not write over, and which the collector must spare.
-ghost use Rattle.std.specs.Prelude.{◌≡◌, ◌<◌, ◌+◌, Some, None, true, length, map, slice_set, option_map, option_copied, if◌then◌else◌, IfOk, OnOk, OnErr, IsSome};
+ghost use Rattle.std.specs.Prelude.{◌≡◌, ◌<◌, ◌+◌, Some, None, true, length, map, slice_set, option_map, option_copied, is_some, if◌then◌else◌, IfOk, OnOk, OnErr, IsSome};
 ghost use Rattle.std.specs.List.{list_any};
 ghost use Rattle.ix_machine.specs.Needs.{option_any};
 ghost use Rattle.ix_guard.specs.Guarding.{guarding_nothing, lease_of_names, with_put, lease_of};
@@ -183,6 +183,14 @@ impl Guard {
         &self.current
     }
 
+    /// Whether the lane has a lease. Takes no memory.
+    pub fn has_lease(&self, lane: u32) -> bool
+        requires { lane < length self.now.leases }
+        ensures { result ≡ is_some (lease_of self.now lane) }
+    {
+        self.leases[lane as usize].is_some()
+    }
+
     /// Whether the lane's lease has the name. Takes no memory.
     pub fn has_leased(&self, lane: u32, name: FileName) -> bool
         requires { lane < length self.now.leases }
@@ -231,8 +239,8 @@ impl Guard {
         is_leased(&self.leases[..lane], name) || is_leased(&self.leases[lane + 1..], name)
     }
 
-    /// Whether the record was put under the lane's lease.
-    fn was_put(&self, lane: u32, name: FileName) -> bool
+    /// Whether the record was put under the lane's lease. Takes no memory.
+    pub fn was_put(&self, lane: u32, name: FileName) -> bool
         requires { lane < length self.now.leases }
         ensures { result ≡ was_put self.now lane name }
     {

@@ -6,6 +6,7 @@ pub mod laws;
 mod lease;
 mod need_list;
 mod recount;
+mod tally;
 #[cfg(test)]
 mod tests;
 

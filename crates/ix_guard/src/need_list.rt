@@ -5,13 +5,14 @@ ghost use Rattle.ix_model.specs.declared.publication.Publication.TheVariants.{Pu
 ghost use Rattle.ix_model.specs.Units.{Units, changed, unit_named, NamesRise};
 ghost use Rattle.ix_machine.specs.Needs.{has_name};
 ghost use Rattle.ix_guard.specs.Counts.{names_of, AreCounts, Gains, Loses};
-ghost use Rattle.ix_guard.specs.Listing.{names_in, need_list_of};
+ghost use Rattle.ix_guard.specs.Listing.{names_in, units_put, need_list_of};
 
 use crate::laws;
 use crate::recount::{Counts, lower_all, raise_all};
+use crate::tally::counts_of;
 use ix_pages::Pages;
 use ix_types::{FileName, Memory};
-use ix_unit::UnitValue;
+use ix_unit::{UnitPut, UnitValue};
 use std::alloc::Global;
 use std::marker::Model;
 
@@ -41,6 +42,15 @@ impl NeedList {
         NeedList {
             counts: Pages::empty(),
         }
+    }
+
+    /// What units need that were put, made in one go.
+    pub fn of_puts(alloc: Global, puts: &[UnitPut]) -> Result<NeedList, Memory>
+        ensures { IfOk result (λ list. list ≡ need_list_of (units_put puts.now)) }
+    {
+        laws::need_lists_are_exact();
+        let counts = counts_of(alloc, puts)?;
+        Ok(NeedList { counts })
     }
 
     /// The list after a unit came: from the need list of any units without it to that of these with it. This one stays.

@@ -58,7 +58,7 @@ fn count(counts: &Counts, name: FileName) -> u64
 }
 
 /// The next count. No store comes to the greatest u64: that is answered as want of memory.
-fn one_more(count: u64) -> Result<u64, Memory>
+pub(crate) fn one_more(count: u64) -> Result<u64, Memory>
     ensures { IfOk result (λ more. more ≡ count + 1) }
 {
     count.checked_add(1).ok_or(Memory)

@@ -9,3 +9,5 @@ pub mod Netting
 pub mod Ordered
 pub mod Ends
 pub mod Singles
+pub mod Dealt
+pub mod Joined

@@ -80,7 +80,7 @@ module _ {K V : Type 0} {kcmp : K → K → Ordering} {vcmp : V → V → Orderi
     pub key : is_lt (kcmp s.key r.key) ≡ false
     pub values : is_eq (kcmp s.key r.key) ≡ true → IsBehind ov s.value r.recounts
 
-  stepped_all : (P : K → Type 0) (rs : List (Revision K V)) (s : Step K V) → AllByRecursion (λ r. P r.key) rs → P s.key → AllByRecursion (λ r. P r.key) (with_step kcmp vcmp rs s)
+  pub stepped_all : (P : K → Type 0) (rs : List (Revision K V)) (s : Step K V) → AllByRecursion (λ r. P r.key) rs → P s.key → AllByRecursion (λ r. P r.key) (with_step kcmp vcmp rs s)
   stepped_all P [] s all here = (here, tt)
   stepped_all P (r ∷ []) s all here = cases (is_eq (kcmp s.key r.key))
     where
@@ -166,7 +166,7 @@ module _ {K V : Type 0} {kcmp : K → K → Ordering} {vcmp : V → V → Orderi
       later [] all next = tt
       later (u ∷ us) all next = (stepped_behind rs s u all.0 next.0, later us all.1 next.1)
 
-  settled_all : (P : K → Type 0) (rs : List (Revision K V)) → AllByRecursion (λ r. P r.key) rs → AllByRecursion (λ r. P r.key) (all_settled rs)
+  pub settled_all : (P : K → Type 0) (rs : List (Revision K V)) → AllByRecursion (λ r. P r.key) rs → AllByRecursion (λ r. P r.key) (all_settled rs)
   settled_all P [] all = tt
   settled_all P (r ∷ rs) all = cases (settled_all P rs all.1) (filter is_change r.recounts)
     where

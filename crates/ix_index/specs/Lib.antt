@@ -3,3 +3,4 @@ pub mod Parting
 pub mod Recounting
 pub mod Stepping
 pub mod Gathering
+pub mod Dealing

@@ -5,9 +5,11 @@ ghost use Rattle.std.specs.List.Sorted.{IsPermutation, IsSortedBy};
 ghost use Rattle.std.specs.Ordering.{is_lt};
 ghost use Rattle.ix_index.specs.Recounting.{gained_in, lost_in, AreRevisions};
 ghost use Rattle.ix_index.specs.Stepping.{gains_of, losses_of};
+ghost use Rattle.ix_index.specs.Dealing.{dealt_of, steps_of, AreApart, AreNetBehind};
 ghost use Rattle.ix_index.specs.Gathering.{once, once_more, is_change, with_turn, first_of, settled, all_settled, step_cmp, with_step, gathered};
 
 use crate::item::Item;
+use crate::parts::{Parts, parted};
 use crate::revisions::{Recount, Revision};
 use ix_types::{Memory, Seq};
 use std::alloc::Global;
@@ -212,31 +214,63 @@ fn settle<K: Drop, V: Drop>(
     Ok(())
 }
 
-/// Revisions without what changes nothing.
+/// Puts revisions behind others, without what changes nothing.
 fn settle_all<K: Drop, V: Drop>(
-    alloc: Global,
+    revisions: &mut Vec<Revision<K, V>>,
     gathered: Vec<Revision<K, V>>,
-) -> Result<Vec<Revision<K, V>>, Memory>
-    ensures { IfOk result (λ revisions. revisions.items ≡ all_settled gathered.items) }
+) -> Result<(), Memory>
+    ensures { OnOk result (revisions.new.items ≡ revisions.old.items ++ all_settled gathered.items) }
 {
-    let mut revisions = Vec::with_capacity(alloc, gathered.len())?;
     for revision in gathered {
-        settle(&mut revisions, revision)?;
+        settle(revisions, revision)?;
     }
-    Ok(revisions)
+    Ok(())
+}
+
+/// Puts what some steps change behind revisions.
+fn revise<K: Item, V: Item>(
+    alloc: Global,
+    revisions: &mut Vec<Revision<K, V>>,
+    mut steps: Vec<Step<K, V>>,
+) -> Result<(), Memory>
+    ensures { OnOk result (AreNetBehind K.cmp V.cmp steps.items revisions.old.items revisions.new.items) }
+{
+    sort(&mut steps);
+    let gathered = gather_all(alloc, steps)?;
+    settle_all(revisions, gathered)
+}
+
+/// Puts what the steps of all parts change behind revisions, part by part.
+fn revise_all<K: Item, V: Item>(
+    alloc: Global,
+    parts: Parts<K, V>,
+    revisions: &mut Vec<Revision<K, V>>,
+) -> Result<(), Memory>
+    ensures { OnOk result (AreApart K.cmp (dealt_of parts)
+        → AreNetBehind K.cmp V.cmp (steps_of (dealt_of parts)) revisions.old.items revisions.new.items) }
+{
+    match parts {
+        Parts::Part(steps) => revise(alloc, revisions, steps),
+        Parts::Cut(left, _, right) => {
+            revise_all(alloc, Box::into_inner(left), revisions)?;
+            revise_all(alloc, Box::into_inner(right), revisions)
+        }
+    }
 }
 
 /// What single steps, in any order, change key by key: sorted, and without what changes nothing.
+#[tactic(auto, using(crate::proofs::Joined::all_rise, crate::proofs::Joined::all_net))]
 pub fn revisions_of<K: Item, V: Item>(
     alloc: Global,
-    mut steps: Vec<Step<K, V>>,
+    steps: Vec<Step<K, V>>,
 ) -> Result<Vec<Revision<K, V>>, Memory>
     ensures rise { IfOk result (λ revisions. AreRevisions K.cmp V.cmp revisions.items) }
     ensures nets { IfOk result (λ revisions. (before : ℕ) (key : K) (value : V)
         → before + gained_in K.cmp V.cmp revisions.items key value - lost_in K.cmp V.cmp revisions.items key value
         ≡ before + gains_of K.cmp V.cmp steps.items key value - losses_of K.cmp V.cmp steps.items key value) }
 {
-    sort(&mut steps);
-    let gathered = gather_all(alloc, steps)?;
-    settle_all(alloc, gathered)
+    let parts = parted(alloc, steps)?;
+    let mut revisions = Vec::new(alloc);
+    revise_all(alloc, parts, &mut revisions)?;
+    Ok(revisions)
 }

@@ -1,4 +1,5 @@
 pub mod Maps
+pub mod InOneGo
 pub mod NeedLists
 pub mod States
 pub mod Making

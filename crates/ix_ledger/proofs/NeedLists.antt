@@ -1,10 +1,12 @@
 -- What units need, they need whatever the values of their records are.
 use Rattle.std.proofs.Common.{◌≡◌, ℕ, List, [], ◌∷◌, ◌++◌, map, refl, ap}
 use Rattle.ix_types.specs.Row.{text_cmp}
+use Rattle.ix_unit.specs.declared.batch.UnitPut.{UnitPut}
 use Rattle.ix_model.specs.SortedSet.{sorted_set}
 use Rattle.ix_model.specs.Units.{Units}
 use Rattle.ix_guard.specs.Counts.{times}
-use Rattle.ix_guard.specs.Listing.{names_in, names_in_all, need_list_of}
+use Rattle.ix_guard.specs.Listing.{names_in, names_in_all, units_put, need_list_of}
+use Rattle.ix_ledger.specs.Handles.{named_puts}
 use Rattle.ix_ledger.specs.Kept.{as_units}
 use Rattle.ix_ledger.specs.OfState.{named_of}
 
@@ -19,3 +21,8 @@ list_same units = ap (λ (names : List (List ℕ)). map (λ name. (name, times n
 pub nothing_needed : [] ≡ need_list_of []
 unfolding need_list_of
 nothing_needed = refl
+
+-- the units that were put, by way of their map
+pub puts_same : (puts : List UnitPut) → units_put puts ≡ as_units (named_puts puts)
+puts_same [] = refl
+puts_same (p ∷ ps) = ap (λ (rest : Units). (p.name, record { unit = p.unit.value; values = [] }) ∷ rest) (puts_same ps)

@@ -148,26 +148,12 @@ impl Change {
         requires { IsStrictlySortedBy text_cmp (map (λ put. put.name) found.now) }
         ensures { IfOk result (λ change. change ≡ record { units = named_puts found.now; published = length found.now }) }
     {
-        let mut change = Change::none();
-        for put in found {
-            let next = change.and_found(alloc, put)?;
-            change = next;
-        }
-        Ok(change)
-    }
-
-    /// The next unit that was found.
-    fn and_found(&self, alloc: Global, put: &UnitPut) -> Result<Change, Memory>
-        requires { unit_at put.now.name self.now.units ≡ None }
-        ensures { IfOk result (λ change. change ≡ record { units = insert_entry text_cmp self.now.units put.now.name put.now.unit.value; published = self.now.published + 1 }) }
-    {
-        Change::with_new(
-            alloc,
-            &self.units,
-            &self.needs,
-            self.published,
-            put.name,
-            &put.unit,
-        )
+        let units = UnitMap::of_puts(alloc, found)?;
+        let needs = NeedList::of_puts(alloc, found)?;
+        Ok(Change {
+            units,
+            needs,
+            published: found.len() as u64,
+        })
     }
 }

@@ -1,12 +1,12 @@
 //! The ledger: what is kept, and what happened.
-ghost use Rattle.std.specs.Prelude.{◌≡◌, ◌<◌, ◌↔◌, [], length, Some, None, true, false, map, option_map, option_copied, IfOk, OnOk, OnErr, IsSome};
+ghost use Rattle.std.specs.Prelude.{◌≡◌, ◌<◌, ◌↔◌, [], length, Some, None, true, false, map, option_map, option_copied, is_some, IfOk, OnOk, OnErr, IsSome};
 ghost use Rattle.std.specs.List.Sorted.{IsStrictlySortedBy};
 ghost use Rattle.ix_types.specs.Row.{text_cmp};
 ghost use Rattle.ix_machine.specs.Needs.{option_any};
 ghost use Rattle.ix_machine.specs.declared.event.Call.TheVariants as call;
 ghost use Rattle.ix_machine.specs.declared.event.Outcome.TheVariants as outcome;
 ghost use Rattle.ix_guard.specs.Guarding.{lease_of};
-ghost use Rattle.ix_guard.specs.Protection.{leases_name, is_guarded};
+ghost use Rattle.ix_guard.specs.Protection.{leases_name, is_guarded, was_put};
 ghost use Rattle.ix_ledger.specs.Books.{event, logged, settled_as};
 ghost use Rattle.ix_ledger.specs.Effects.{kept_at_first, leased, noted, dropped, staging, publish_change, remove_change, changed};
 ghost use Rattle.ix_ledger.specs.Handles.{named_puts};
@@ -74,6 +74,14 @@ impl Ledger {
         self.log.events()
     }
 
+    /// What happened, the first event first. Takes no memory.
+    pub fn into_events(self) -> Seq<Event>
+        ensures { result ≡ self.events }
+    {
+        let Ledger { register: _, log } = self;
+        log.into_events()
+    }
+
     /// The step is made: writes it down.
     pub(crate) fn end(&mut self, lane: u32, call: Call, outcome: Outcome)
         requires { self.old.has_room ≡ true }
@@ -107,6 +115,22 @@ impl Ledger {
         ensures { result ≡ is_guarded self.now.kept.guard lane name }
     {
         self.register.protects(lane, name)
+    }
+
+    /// Whether the lane has a lease. Takes no memory.
+    pub fn has_lease(&self, lane: u32) -> bool
+        requires { lane < length self.now.kept.guard.leases }
+        ensures { result ≡ is_some (lease_of self.now.kept.guard lane) }
+    {
+        self.register.has_lease(lane)
+    }
+
+    /// Whether the record was put under the lane's lease. Takes no memory.
+    pub fn has_put(&self, lane: u32, name: FileName) -> bool
+        requires { lane < length self.now.kept.guard.leases }
+        ensures { result ≡ was_put self.now.kept.guard lane name }
+    {
+        self.register.has_put(lane, name)
     }
 
     /// Whether the lane's lease has the name. Takes no memory.

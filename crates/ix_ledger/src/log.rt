@@ -3,7 +3,7 @@ ghost use Rattle.std.specs.Prelude.{◌≡◌, ◌<◌, [], ◌∷◌, ◌++◌,
 ghost use Rattle.ix_ledger.specs.Logged.{Logged};
 
 use ix_machine::Event;
-use ix_types::Memory;
+use ix_types::{Memory, Seq};
 use std::alloc::Global;
 use std::marker::Model;
 
@@ -41,6 +41,17 @@ impl Log {
         ensures { result.now ≡ self.now.events }
     {
         &self.events
+    }
+
+    /// The events, the first one first. Takes no memory.
+    pub(crate) fn into_events(self) -> Seq<Event>
+        ensures { result ≡ self.events }
+    {
+        let Log {
+            events,
+            has_room: _,
+        } = self;
+        Seq::of(events)
     }
 
     /// Makes room for one event.

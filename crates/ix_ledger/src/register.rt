@@ -1,8 +1,8 @@
 //! What is kept of a state of the machine.
-ghost use Rattle.std.specs.Prelude.{◌≡◌, ◌<◌, ◌↔◌, length, map, replicate, slice_set, IsSome, Some, None, true, option_map, option_copied, IfOk, OnOk, OnErr};
+ghost use Rattle.std.specs.Prelude.{◌≡◌, ◌<◌, ◌↔◌, length, map, replicate, slice_set, IsSome, Some, None, true, option_map, option_copied, is_some, IfOk, OnOk, OnErr};
 ghost use Rattle.ix_machine.specs.Needs.{option_any};
 ghost use Rattle.ix_guard.specs.Guarding.{lease_of};
-ghost use Rattle.ix_guard.specs.Protection.{leases_name, is_guarded, IsFirstLoose};
+ghost use Rattle.ix_guard.specs.Protection.{leases_name, is_guarded, was_put, IsFirstLoose};
 ghost use Rattle.ix_ledger.specs.Effects.{kept_at_first, publish_over, publish_change, remove_change, leased, noted, dropped, staging, changed, settled, opened, closed, installed, adopted, released};
 ghost use Rattle.ix_ledger.specs.Kept.{unit_at, staged_in, held_in};
 ghost use Rattle.ix_ledger.specs.Registered.{import_seen, IsFirstListed};
@@ -236,6 +236,22 @@ impl Register {
         ensures { result ≡ is_guarded self.now.guard lane name }
     {
         self.guard.protects(lane, name)
+    }
+
+    /// Whether the lane has a lease.
+    pub(crate) fn has_lease(&self, lane: u32) -> bool
+        requires { lane < length self.now.guard.leases }
+        ensures { result ≡ is_some (lease_of self.now.guard lane) }
+    {
+        self.guard.has_lease(lane)
+    }
+
+    /// Whether the record was put under the lane's lease.
+    pub(crate) fn has_put(&self, lane: u32, name: FileName) -> bool
+        requires { lane < length self.now.guard.leases }
+        ensures { result ≡ was_put self.now.guard lane name }
+    {
+        self.guard.was_put(lane, name)
     }
 
     /// Whether the lane's lease has the name.

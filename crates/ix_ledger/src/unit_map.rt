@@ -1,14 +1,16 @@
 //! Units by name, with history.
-ghost use Rattle.std.specs.Prelude.{◌≡◌, [], IfOk, option_map, option_copied};
+ghost use Rattle.std.specs.Prelude.{◌≡◌, [], map, IfOk, option_map, option_copied};
+ghost use Rattle.std.specs.List.Sorted.{IsStrictlySortedBy};
 ghost use Rattle.std.specs.BTreeMap.{insert_entry, is_at};
 ghost use Rattle.std.specs.Map.{remove_entry};
 ghost use Rattle.ix_types.specs.Row.{text_cmp};
 ghost use Rattle.ix_model.specs.Units.{NamesRise};
+ghost use Rattle.ix_ledger.specs.Handles.{named_puts, led_changes, puts_led};
 ghost use Rattle.ix_ledger.specs.Kept.{as_units, unit_at};
 
-use ix_pages::{Pages, laws};
+use ix_pages::{Change, Pages, laws};
 use ix_types::{FileName, Memory};
-use ix_unit::UnitValue;
+use ix_unit::{UnitPut, UnitValue};
 use std::alloc::Global;
 use std::marker::Model;
 use std::sync::Arc;
@@ -37,6 +39,17 @@ impl UnitMap {
         UnitMap {
             pages: Pages::empty(),
         }
+    }
+
+    /// The units that were put, in one go.
+    pub(crate) fn of_puts(alloc: Global, puts: &[UnitPut]) -> Result<UnitMap, Memory>
+        requires { IsStrictlySortedBy text_cmp (map (λ put. put.name) puts.now) }
+        ensures { IfOk result (λ units. units ≡ named_puts puts.now) }
+    {
+        let none: Pages<FileName, Arc<UnitValue>, 64> = Pages::empty();
+        let changes = changes_of(alloc, puts)?;
+        let pages = none.with_all(alloc, changes)?;
+        Ok(UnitMap { pages })
     }
 
     /// The unit of a name; None exactly where there is none: one look-up. Takes no memory.
@@ -78,4 +91,19 @@ impl UnitMap {
         let pages = self.pages.without(alloc, name)?;
         Ok(UnitMap { pages })
     }
+}
+
+/// The changes that put the units into an empty map.
+fn changes_of(
+    alloc: Global,
+    puts: &[UnitPut],
+) -> Result<Vec<Change<FileName, Arc<UnitValue>>>, Memory>
+    ensures { IfOk result (λ changes. led_changes changes.items ≡ puts_led puts.now) }
+{
+    let mut changes = Vec::with_capacity(alloc, puts.len())?;
+    for put in puts {
+        let handle = Arc::try_clone(&put.unit)?;
+        changes.push(Change::Put(put.name, handle))?;
+    }
+    Ok(changes)
 }

@@ -1,2 +1,9 @@
+pub mod Conditions
+pub mod Endings
+pub mod Given
+pub mod Growing
+pub mod KnownUnits
+pub mod LookEndings
+pub mod Looks
 pub mod Opened
 pub mod StandsFor

@@ -3,3 +3,4 @@ pub mod Needed
 pub mod Rows
 pub mod Sets
 pub mod Sufficing
+pub mod Loading

@@ -1,5 +1,5 @@
 -- Edits: parted at a key, and made in a tree.
-use Rattle.std.proofs.Common.{◌≡◌, ℕ, suc, ◌<◌, ◌≤◌, true, false, not, List, [], ◌∷◌, ◌++◌, length, map, take, drop, get_or, filter, sym, ◌∙◌, ap, subst, Option, Some, Ok, Err, arith}
+use Rattle.std.proofs.Common.{◌≡◌, ℕ, suc, ◌<◌, ◌≤◌, true, false, not, List, [], ◌∷◌, ◌++◌, length, map, take, drop, get_or, filter, sym, ◌∙◌, ap, subst, Option, None, Some, Ok, Err, slice_get, arith}
 use Rattle.std.specs.List.{AllByRecursion}
 use Rattle.std.specs.List.Sorted.{IsBinarySearchResult}
 use Rattle.std.specs.declared.cmp.Ordering.{Ordering}
@@ -26,7 +26,9 @@ use Rattle.ix_pages.proofs.Parting.{parted_absent, parted_present}
 use Rattle.ix_pages.proofs.Paged.{pairs_of-append}
 use Rattle.ix_pages.proofs.Trees.{has_page, before_first}
 use Rattle.ix_pages.proofs.Filters.{filter_front, filter_back, all_mapped}
-use Rattle.ix_pages.proofs.Changing.{none_changed, rising_changes_left, rising_changes_right, changed_in_two, put_merged, take_merged}
+use Rattle.ix_pages.proofs.Elements.{all_follow}
+use Rattle.ix_pages.proofs.OneGo.{pairs_of_changed}
+use Rattle.ix_pages.proofs.Changing.{changed_right, none_changed, rising_changes_left, rising_changes_right, changed_in_two, put_merged, take_merged}
 
 module _ {K V : Type 0} where
   -- an edit behind its key, as pairs are parted
@@ -111,6 +113,35 @@ module _ {K V : Type 0} {cmp : K → K → Ordering} (o : IsTotalOrder cmp) wher
       ∙ ap (λ cs. pages_changed cmp most (pages_of left) cs ++ pages_changed cmp most back behind) (sym own)
       ∙ ap (λ cs. pages_changed cmp most (pages_of left) (changes_before cmp (pairs_of back) changes) ++ pages_changed cmp most back cs) (sym other)
       ∙ sym whole ∙ ap (λ pages. pages_changed cmp most pages changes) (sym is)
+
+  -- edits whose first key is greater than a key
+  pub all_greater : (key : K) (es : List (Edit K V)) (first : Edit K V) → slice_get es 0 ≡ Some first → AreRising cmp (map change_of es) → cmp key (key_of_edit first) ≡ Less → AllByRecursion (λ change. cmp key (key_of_change change) ≡ Less) (map change_of es)
+  all_greater key [] first is rising less = absurd (cc)
+  all_greater key (e ∷ es) first is rising less =
+      let at : cmp key (key_of_edit e) ≡ Less = ap (λ x. match_first key x) is ∙ less in
+      (at, all_follow _ _ (λ change up. o.trans key (key_of_edit e) (key_of_change change) at up) (map change_of es) rising.0)
+    where
+      match_first : K → Option (Edit K V) → Ordering
+      match_first key None = Less
+      match_first key (Some x) = cmp key (key_of_edit x)
+
+  first_of_changed : (first : K × V) (pairs : List (K × V)) (changes : List (Change K V)) → IsFirst first pairs → AllByRecursion (λ change. cmp first.0 (key_of_change change) ≡ Less) changes → IsFirst first (changed cmp pairs changes)
+  first_of_changed first [] changes is greater = absurd (cc)
+  first_of_changed first (p ∷ ps) changes is greater =
+      let same : Some p ≡ Some first = is in
+      let above : AllByRecursion (λ change. AllByRecursion (λ x. cmp (key_of_change change) x.0 ≡ Greater) (p ∷ [])) changes =
+      all_follow _ _ (λ change less. (less_back o p.0 (key_of_change change) (ap (λ x. match_key x (key_of_change change)) same ∙ less), tt)) changes greater in
+      ap (λ pairs. slice_get pairs 0) (changed_right cmp (p ∷ []) ps changes above) ∙ same
+    where
+      match_key : Option (K × V) → K → Ordering
+      match_key None key = Less
+      match_key (Some x) key = cmp x.0 key
+
+  -- changes of greater keys leave the first pair
+  pub first_stays : (most : ℕ) (first : K × V) (pages after : List (List (K × V))) (changes : List (Change K V)) → IsFirst first (pairs_of pages) → IsRising cmp (pairs_of pages) → AreRising cmp changes
+      → AllByRecursion (λ change. cmp first.0 (key_of_change change) ≡ Less) changes → after ≡ pages_changed cmp most pages changes → IsFirst first (pairs_of after)
+  first_stays most first pages after changes is rising up greater made =
+      subst (λ pairs. IsFirst first pairs) (sym (ap pairs_of made ∙ pairs_of_changed o most pages changes rising up)) (first_of_changed first (pairs_of pages) changes is greater)
 
   -- a page that grew by the pairs up to an edit, and by that of a put
   pub place_made : (edit : Edit K V) (entry e : Arc (Entry K V) Global) (key : K) (p0 p1 p2 rest lesser greater : List (Arc (Entry K V) Global)) (same : Option (K × V)) → edit ≡ Place entry → key ≡ key_of_edit edit → map pair_of p1 ≡ map pair_of p0 ++ map pair_of lesser → p2 ≡ p1 ++ e ∷ [] → e.value ≡ entry.value

@@ -1,5 +1,5 @@
 //! Many changes of a tree in one go. A part into which none falls is shared.
-ghost use Rattle.std.specs.Prelude.{◌≡◌, ◌++◌, ◌∷◌, ◌<◌, List, [], map, not, filter, IfOk};
+ghost use Rattle.std.specs.Prelude.{◌≡◌, ◌++◌, ◌∷◌, ◌<◌, List, [], map, not, true, filter, IfOk};
 ghost use Rattle.std.specs.List.{AllByRecursion};
 ghost use Rattle.std.specs.declared.cmp.Ordering.TheVariants.{Less};
 ghost use Rattle.std.specs.Ordering.{is_lt};
@@ -10,8 +10,8 @@ ghost use Rattle.ix_pages.specs.Changes.{key_of_change, changed, cut_often, page
 ghost use Rattle.ix_pages.specs.Tree.{pair_of, pages_of, pages_in, IsTree, IsTreeOf, IsWhole, IsRestOf, IsFirst};
 ghost use Rattle.ix_pages.specs.Edits.{change_of, key_of_edit};
 
-use crate::page::{Entry, Parted, append, copy, part};
-use crate::tree::{Tree, extent_of, first_entry, join, rest_of_page};
+use crate::page::{Entry, Parted, append, copy, fetch, part};
+use crate::tree::{Tree, extent_of, fetch_head, first_entry, join, rest_of_page};
 use ix_types::Memory;
 use std::alloc::Global;
 use std::cmp::Ordering;
@@ -31,6 +31,17 @@ fn key_of<K, V>(edit: &Edit<K, V>) -> &K
     match edit {
         Edit::Place(entry) => &entry.key,
         Edit::Remove(key) => key,
+    }
+}
+
+/// Whether the keys of all edits are greater.
+fn are_greater<K: Ord, V>(edits: &[Edit<K, V>], key: &K) -> bool
+    requires { AreRising K.cmp (map change_of edits.now) }
+    ensures { result ≡ true → AllByRecursion (λ change. K.cmp key.now (key_of_change change) ≡ Less) (map change_of edits.now) }
+{
+    match edits.first() {
+        Some(edit) => key.cmp(key_of(edit)).is_lt(),
+        None => true,
     }
 }
 
@@ -104,6 +115,7 @@ fn merged<K: Ord + Drop, V: Drop>(
     requires edits { AreRising K.cmp (map change_of edits.now) }
     ensures { IfOk result (λ page. map pair_of page.items ≡ changed K.cmp (map pair_of entries.now) (map change_of edits.now)) }
 {
+    fetch(entries);
     let len = entries.len().saturating_add(edits.len());
     let mut page = Vec::with_capacity(alloc, len)?;
     let mut rest = entries;
@@ -167,6 +179,30 @@ fn both<K: Drop, V: Drop>(
     }
 }
 
+/// The same, with the first pair of the second part at hand.
+fn both_from<K: Drop, V: Drop>(
+    alloc: Global,
+    left: Option<Arc<Tree<K, V>>>,
+    least: &Arc<Entry<K, V>>,
+    right: Option<Arc<Tree<K, V>>>,
+) -> Result<Option<Arc<Tree<K, V>>>, Memory>
+    requires left { IsWhole left }
+    requires right { IsWhole right }
+    requires least { IsFirst (pair_of least.now) (pairs_of (pages_in right)) }
+    ensures { IfOk result (λ all. IsRestOf all (pages_in left ++ pages_in right)) }
+{
+    match left {
+        None => Ok(right),
+        Some(left) => match right {
+            None => Ok(Some(left)),
+            Some(right) => {
+                let all = join_any(alloc, &left, least, &right)?;
+                Ok(Some(all))
+            }
+        },
+    }
+}
+
 /// A tree of pairs, cut into pages as often as is needed.
 fn built<K: Drop, V: Drop>(
     alloc: Global,
@@ -199,6 +235,9 @@ fn edited_pairs<K: Ord + Drop, V: Drop>(
     ensures { IfOk result (λ rest. IsRestOf rest (cut_often most (changed K.cmp (map pair_of entries.now) (map change_of edits.now)))) }
 {
     let page = merged(alloc, entries, edits)?;
+    if page.len() <= most {
+        return rest_of_page(alloc, page);
+    }
     built(alloc, most, &page)
 }
 
@@ -236,9 +275,14 @@ pub(crate) fn edited<K: Ord + Drop, V: Drop>(
     match whole {
         Tree::Page(entries) => edited_pairs(alloc, most, entries, edits),
         Tree::Fork(left, least, right, _) => {
+            fetch_head(left);
+            fetch_head(right);
             let Sides { before, behind } = split_edits(edits, &least.key);
             let left = edited(alloc, most, left, before)?;
             let right = edited(alloc, most, right, behind)?;
+            if are_greater(behind, &least.key) {
+                return both_from(alloc, left, least, right);
+            }
             both(alloc, left, right)
         }
     }

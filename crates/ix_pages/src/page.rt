@@ -89,8 +89,8 @@ pub(crate) fn copy<K: Drop, V: Drop>(
     Ok(page)
 }
 
-/// Reads the counts of a page's pairs before each is raised. Reads overlap, and memory brings the pairs side by side.
-fn fetch<K, V>(entries: &[Arc<Entry<K, V>>]) {
+/// Reads the counts of some pairs in a row before each is needed. Reads overlap, and memory brings the pairs side by side.
+pub(crate) fn fetch<K, V>(entries: &[Arc<Entry<K, V>>]) {
     for entry in entries {
         let _owners = Arc::strong_count(entry);
     }
@@ -143,6 +143,15 @@ pub(crate) fn without_entry<K: Ord + Drop, V: Drop>(
     Ok(page)
 }
 
+/// The same of the last pair of each block of eight.
+fn fetch_blocks<K, V>(entries: &[Arc<Entry<K, V>>]) {
+    for block in entries.chunks_exact(8) {
+        if let Some(last) = block.last() {
+            let _owners = Arc::strong_count(last);
+        }
+    }
+}
+
 /// The pairs of a page among which a key would be, eight at most. These comparisons don't wait for one another, as those of a
 /// binary search do, so memory brings several pairs at once.
 fn block_for<'a, K: Ord, V>(entries: &'a [Arc<Entry<K, V>>], key: &K) -> &'a [Arc<Entry<K, V>>]
@@ -185,7 +194,10 @@ pub(crate) fn entry_at<'a, K: Ord, V>(
     requires { IsRising K.cmp (map pair_of entries.now) }
     ensures { option_map (λ entry. (pair_of entry).1) (option_copied result) ≡ look_up K.cmp (map pair_of entries.now) key.now }
 {
-    scan(block_for(entries, key), key)
+    fetch_blocks(entries);
+    let block = block_for(entries, key);
+    fetch(block);
+    scan(block, key)
 }
 
 /// The pairs of a page whose keys aren't less.

@@ -43,11 +43,19 @@ pub(crate) fn extent_of<K, V>(tree: &Tree<K, V>) -> Extent
     }
 }
 
-/// Reads the head of a part before it is known whether it is needed: memory brings it while keys are compared.
+/// Reads the head of a part before it is known whether it is needed, and what it leads to next: memory brings them while keys are compared.
 pub(crate) fn fetch_head<K, V>(tree: &Arc<Tree<K, V>>) {
-    let _owners = Arc::strong_count(tree);
-    if let Tree::Fork(_, least, _, _) = &**tree {
-        let _owners = Arc::strong_count(least);
+    match &**tree {
+        Tree::Fork(left, least, right, _) => {
+            let _owners = Arc::strong_count(least);
+            let _owners = Arc::strong_count(left);
+            let _owners = Arc::strong_count(right);
+        }
+        Tree::Page(entries) => {
+            if let Some(entry) = entries.as_slice().get(7) {
+                let _owners = Arc::strong_count(entry);
+            }
+        }
     }
 }
 

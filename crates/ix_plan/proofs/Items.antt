@@ -1,7 +1,6 @@
 -- A value's lists and members, beside those of the definitions.
-use Rattle.std.proofs.Common.{◌≡◌, ℕ, ◌<◌, Bool, true, false, List, [], ◌∷◌, ◌++◌, length, map, codes, ◌+◌, ◌||◌, String, Global, string_bytes, bytes_eq, Bor, refl, sym, ap, ◌∙◌, arith, suc, add-one, drop, get_or, Ok}
+use Rattle.std.proofs.Common.{◌≡◌, ℕ, ◌<◌, Bool, true, false, List, [], ◌∷◌, ◌++◌, length, map, codes, ◌+◌, ◌||◌, bytes_eq, Bor, refl, sym, ap, ◌∙◌, arith, suc, add-one, drop, get_or, Ok}
 use Rattle.std.specs.List.{list_any, list_all}
-use Rattle.std.specs.Map.{keys_of}
 use Rattle.std.specs.Fmt.{decimal}
 use Rattle.std.proofs.Math.Seq.{drop-cons}
 use Rattle.std.proofs.lemmas.Bool.{le-ltb}
@@ -9,10 +8,11 @@ use Rattle.std.proofs.lemmas.Str.{utf8_valid_len-IsUtf8}
 use Rattle.std.specs.Str.{IsUtf8}
 use Rattle.serde_json.specs.Read.{read}
 use Rattle.serde_json.specs.Data.{Data}
-use Rattle.serde_json.specs.View.{view, items_view, members_view}
+use Rattle.ix_plan.specs.View.{view, items_view, members_view}
 use Rattle.ix_plan.specs.Read.{Read, ◌>>=◌, within}
-use Rattle.serde_json.specs.declared.value.Value.{Value}
+use Rattle.ix_plan.specs.declared.value.Value.{Value}
 use Rattle.ix_plan.specs.Texts.{text_at}
+use Rattle.ix_plan.proofs.Members.{Member, keys_of_members}
 use Rattle.ix_plan.specs.Json.{json_option, keys_among, items_count, in_order}
 
 pub json_of_utf8 : (bytes : List ℕ) → IsUtf8 bytes → json_option bytes ≡ read bytes
@@ -43,10 +43,9 @@ any_of_both : (names more : List (Bor (List ℕ))) (key : List ℕ) → list_any
 any_of_both [] more key = any_name more key
 any_of_both (name ∷ names) more key = ap (λ b. bytes_eq name.now key || b) (any_of_both names more key) ∙ sym (or-assoc (bytes_eq name.now key) (is_name names key) (is_name more key))
 
-pub keys_among_members : (names more : List (Bor (List ℕ))) (es : List (String Global × Value))
-    → keys_among (map (λ name. name.now) names ++ map (λ name. name.now) more) (members_view es) ≡ list_all (λ key. is_name names (string_bytes key) || is_name more (string_bytes key)) (keys_of es)
-keys_among_members names more [] = refl
-keys_among_members names more (e ∷ es) = rw (any_of_both names more (string_bytes e.0), keys_among_members names more es) refl
+pub keys_among_members : (names more : List (Bor (List ℕ))) (ms : List Member)
+    → keys_among (map (λ name. name.now) names ++ map (λ name. name.now) more) (members_view ms) ≡ list_all (λ member. is_name names member.0.now || is_name more member.0.now) ms
+keys_among_members names more ms = keys_of_members (plain names ++ plain more) (λ member. is_name names member.0.now || is_name more member.0.now) (λ member. any_of_both names more member.0.now) ms
 
 -- one item is read, and those behind it are left
 pub next_item : {S A : Type 0} (f : S → Data → Read A) (add : S → A → S) (s : S) (i : ℕ) (vs : List Value) (v : Value) (a : A)

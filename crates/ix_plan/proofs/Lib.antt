@@ -6,3 +6,5 @@ pub mod Keeping
 pub mod Masks
 pub mod PlansKept
 pub mod StepsKept
+pub mod Turns
+pub mod Members

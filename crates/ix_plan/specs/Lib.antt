@@ -8,3 +8,4 @@ pub mod Plans
 pub mod Steps
 pub mod Reading
 pub mod Keeps
+pub mod View

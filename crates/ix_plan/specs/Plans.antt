@@ -1,4 +1,5 @@
--- The tables of fields of a compile job: each object's fields in the order in which they are read.
+-- The tables of fields of a compile job, one definition an object: the names that it may have, then a line for each field, in the order in which
+-- they are read, with its default in brackets where it has one. Limits of lists stand beside the lists.
 use Rattle.std.specs.Prelude.{ℕ, List, [], ◌∷◌, codes, Bool, false, Ok}
 use Rattle.std.specs.List.{list_any}
 use Rattle.std.specs.Str.{bytes_eq}
@@ -18,7 +19,7 @@ use Rattle.ix_plan.specs.Read.{Read, ◌>>=◌}
 use Rattle.ix_plan.specs.Json.{with_fields, field, field_or, list_of}
 use Rattle.ix_plan.specs.Values.{text_of, text_or_empty_of, flag_of, count_of, max_coordinate, word_of, role_of, relation_of, prop_of, bits_of, some_bits_of, new_usr_of, known_usr_of}
 
--- `path`, `system` (false)
+-- table of a file: `path`, `system` (false)
 unfoldable pub file_of : Data → Read FilePlan
 file_of d = do
   checked ← with_fields (codes "path" ∷ codes "system" ∷ []) d
@@ -26,7 +27,7 @@ file_of d = do
   system ← field_or false (codes "system") flag_of d
   Ok (record { path = path; system = system })
 
--- `from`, `line`, `to`
+-- table of an include: `from`, `line`, `to`
 unfoldable pub include_of : Data → Read IncludePlan
 include_of d = do
   checked ← with_fields (codes "from" ∷ codes "line" ∷ codes "to" ∷ []) d
@@ -35,7 +36,7 @@ include_of d = do
   to ← field (codes "to") text_of d
   Ok (record { from = from; line = line; to = to })
 
--- `usr`, a symbol's of the record; `roles`, relations alone
+-- table of a relation: `usr`, a symbol's of the record; `roles`, relations alone
 unfoldable pub relation_plan_of : (List ℕ → Bool) → Data → Read RelationPlan
 relation_plan_of known d = do
   checked ← with_fields (codes "usr" ∷ codes "roles" ∷ []) d
@@ -43,7 +44,7 @@ relation_plan_of known d = do
   roles ← field (codes "roles") (some_bits_of relation_of) d
   Ok (record { usr = usr; roles = roles })
 
--- `usr`, a symbol's of the record; `line`; `col`; `roles`; `relations` (none)
+-- table of an occurrence: `usr`, a symbol's of the record; `line`; `col`; `roles`; `relations` (none), at most 256
 unfoldable pub occurrence_of : (List ℕ → Bool) → Data → Read OccurrencePlan
 occurrence_of known d = do
   checked ← with_fields (codes "usr" ∷ codes "line" ∷ codes "col" ∷ codes "roles" ∷ codes "relations" ∷ []) d
@@ -67,7 +68,7 @@ abbrev pub codegen_of : Format → Data → Read (List ℕ)
 codegen_of One d = Ok []
 codegen_of Two d = field_or [] (codes "codegen") text_or_empty_of d
 
--- `usr`, of no symbol before; `name` (empty); `kind` (Unknown); `lang` (Swift); `props` (none); in format Two `codegen` (empty)
+-- table of a symbol: `usr`, of no symbol before; `name` (empty); `kind` (Unknown); `lang` (Swift); `props` (none); in format Two `codegen` (empty)
 unfoldable pub symbol_of : Format → (List ℕ → Bool) → Data → Read SymbolPlan
 symbol_of format taken d = do
   checked ← with_fields (symbol_fields format) d
@@ -83,14 +84,15 @@ symbol_of format taken d = do
 abbrev pub is_usr_of : List SymbolPlan → List ℕ → Bool
 is_usr_of symbols usr = list_any (λ symbol. bytes_eq usr symbol.usr) symbols
 
--- no two symbols have the same USR: the later one is refused
+-- at most 65,536 symbols; no two have the same USR: the later one is refused
 abbrev pub symbols_of : Format → Data → Read (List SymbolPlan)
 symbols_of format d = list_of what.Symbols 65536 (λ before. symbol_of format (is_usr_of before)) d
 
+-- at most 65,536 occurrences, of these symbols
 abbrev pub occurrences_of : List SymbolPlan → Data → Read (List OccurrencePlan)
 occurrences_of symbols d = list_of what.Occurrences 65536 (λ before. occurrence_of (is_usr_of symbols)) d
 
--- `path`, `system` (false), `symbols` (none), `occurrences` (none)
+-- table of a record: `path`, `system` (false), `symbols` (none), `occurrences` (none)
 unfoldable pub record_of : Format → Data → Read RecordPlan
 record_of format d = do
   checked ← with_fields (codes "path" ∷ codes "system" ∷ codes "symbols" ∷ codes "occurrences" ∷ []) d
@@ -100,7 +102,7 @@ record_of format d = do
   occurrences ← field_or [] (codes "occurrences") (occurrences_of symbols) d
   Ok (record { format = format; path = path; system = system; symbols = symbols; occurrences = occurrences })
 
--- `output`, `main` (empty), `module` (empty), `system` (false), `units` (none), `records` (none), `files` (none), `includes` (none)
+-- table of a unit: `output`, `main` (empty), `module` (empty), `system` (false), and at most 4,096 each of `units` (none), `records` (none), `files` (none), `includes` (none)
 unfoldable pub unit_of : Format → Data → Read UnitPlan
 unit_of format d = do
   checked ← with_fields (codes "output" ∷ codes "main" ∷ codes "module" ∷ codes "system" ∷ codes "units" ∷ codes "records" ∷ codes "files" ∷ codes "includes" ∷ []) d

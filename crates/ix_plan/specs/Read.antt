@@ -8,13 +8,13 @@ use Rattle.ix_plan.specs.declared.refusal.ScriptError.TheVariants.{Memory, Refus
 abbrev pub Read : Type 0 → Type 0
 Read A = Result A ScriptRefusal
 
--- one thing is read, and then the next: the first fault is the answer
+-- rule of two faults: one thing is read, and then the next, and the first fault is the answer
 infixl 10 ◌>>=◌
 abbrev pub ◌>>=◌ : {A B : Type 0} → Read A → (A → Read B) → Read B
 (Ok a) >>= f = f a
 (Err r) >>= f = Err r
 
--- a fault of a part, with its place seen from the whole: a slash and the part's name, or its number, come first
+-- rule of places: a fault of a part, with its place seen from the whole: a slash and the part's name, or its number, come first
 abbrev pub placed : List ℕ → ScriptRefusal → ScriptRefusal
 placed part NotJson = NotJson
 placed part (BadField path) = BadField (47 ∷ part ++ path)
@@ -27,7 +27,7 @@ abbrev pub within : {A : Type 0} → List ℕ → Read A → Read A
 within part (Ok a) = Ok a
 within part (Err r) = Err (placed part r)
 
--- a value that isn't allowed is refused at its own place
+-- rule of values: one that isn't allowed is refused at its own place
 abbrev pub bad_value : {A : Type 0} → Read A
 bad_value = Err (BadValue [])
 

@@ -1,4 +1,17 @@
 -- The script of some bytes, or why they are refused.
+--
+-- Which definition is which rule of reading (the rules are those of docs/FORMATS.md):
+--   of two faults the earlier is answered     `>>=` of Read: a fault of what is read first is the answer, and nothing behind it is read
+--   the place of a fault                      `within` of Read
+--   an object                                 `object_of`, `known_fields` (both in `with_fields`), `field` where it is required, `field_or` with its default, of Json
+--   `do` and `query` before other fields      `step_of` and `ask_of` of Steps
+--   a list                                    `items_of`, then `in_order`, of Json; that a list of roles isn't empty: `some_bits_from` of Values
+--   texts, numbers, truth values, words       Values, a definition each
+--   USRs of a record                          `new_usr_of` and `known_usr_of` of Values, beside the symbols by `symbols_of` and `occurrences_of` of Plans
+--   two lanes that poll, after all else       `one_poller` below
+--   the limits of lists                       the number beside each `list_of`, `items_of` and `count_of`, in the table that has the field
+-- An object's table of fields is one definition, and its order is that of the lines: the script's is `fields_of` below, a compile job's objects
+-- are in Plans, steps and asks in Steps.
 use Rattle.std.specs.Prelude.{ℕ, ◌==◌, ◌+◌, nat_lt, if◌then◌else◌, List, [], ◌∷◌, length, codes, Bool, true, false, Option, Some, None, Ok, Err}
 use Rattle.std.specs.List.{list_any}
 use Rattle.serde_json.specs.Data.{Data}
@@ -47,15 +60,15 @@ abbrev pub second_poller : ℕ → List (List Step) → Option ℕ
 second_poller i [] = None
 second_poller i (lane ∷ lanes) = if polls lane then first_poller (i + 1) lanes else second_poller (i + 1) lanes
 
--- at most 16 lanes
+-- limit: at most 16 lanes
 unfoldable pub lanes_of : Format → Data → Read (List (List Step))
 lanes_of format d = list_of what.Lanes 16 (λ before. lane_of format) d
 
--- at most 65,536 numbers of lanes
+-- limit: at most 65,536 numbers, each of a lane
 unfoldable pub order_of : ℕ → Data → Read (List ℕ)
 order_of lanes d = list_of what.Order 65536 (λ before. lane_number_of lanes) d
 
--- `format`, `lanes`, `order` (none)
+-- table of the script: `format`, `lanes`, `order` (none)
 unfoldable pub fields_of : Data → Read Script
 fields_of d = do
   checked ← with_fields (codes "format" ∷ codes "lanes" ∷ codes "order" ∷ []) d
@@ -68,7 +81,7 @@ abbrev pub accepted : Script → Option ℕ → Read Script
 accepted script None = Ok script
 accepted script (Some lane) = Err (TwoPollers lane)
 
--- after all else, no two lanes may have a poll
+-- rule of pollers: after all else, no two lanes may have a poll
 unfoldable pub one_poller : Script → Read Script
 one_poller script = accepted script (second_poller 0 script.lanes)
 

@@ -1,4 +1,4 @@
--- The tables of fields of steps and asks, by their words.
+-- The tables of fields of steps and asks, by their words, one definition a table. `do` and `query` are read before the fields are judged.
 use Rattle.std.specs.Prelude.{ℕ, ◌&&◌, if◌then◌else◌, List, [], ◌∷◌, codes, Bool, true, false, Ok}
 use Rattle.std.specs.Str.{bytes_eq}
 use Rattle.serde_json.specs.Data.{Data}
@@ -28,13 +28,13 @@ abbrev pub ask_fields : AskPlace → List (List ℕ) → List (List ℕ)
 ask_fields Among names = codes "do" ∷ codes "query" ∷ names
 ask_fields Alone names = codes "query" ∷ names
 
--- an ask with one field, a text: `usr`, `path` or `codegen`
+-- table of an ask with one field, a text: `usr`, `path` or `codegen`
 unfoldable pub one_text : AskPlace → List ℕ → Data → Read (List ℕ)
 one_text at name d = do
   checked ← with_fields (ask_fields at (name ∷ [])) d
   field name text_of d
 
--- `usr`, `roles`
+-- table of `occ` and `rel`: `usr`, `roles`
 unfoldable pub usr_and_roles : AskPlace → (Data → Read ℕ) → Data → Read (List ℕ × ℕ)
 usr_and_roles at word d = do
   checked ← with_fields (ask_fields at (codes "usr" ∷ codes "roles" ∷ [])) d
@@ -42,7 +42,7 @@ usr_and_roles at word d = do
   roles ← field (codes "roles") (some_bits_of word) d
   Ok (usr, roles)
 
--- `usr`, `depth`, from 1 to 16
+-- table of a walk: `usr`, `depth`, from 1 to 16
 unfoldable pub usr_and_depth : AskPlace → Data → Read (List ℕ × ℕ)
 usr_and_depth at d = do
   checked ← with_fields (ask_fields at (codes "usr" ∷ codes "depth" ∷ [])) d
@@ -50,14 +50,14 @@ usr_and_depth at d = do
   depth ← field (codes "depth") (count_of 16) d
   Ok (usr, depth)
 
--- `name`, which may be empty
+-- table of `name`: `name`, which may be empty
 unfoldable pub name_ask : AskPlace → Data → Read Query
 name_ask at d = do
   checked ← with_fields (ask_fields at (codes "name" ∷ [])) d
   name ← field (codes "name") text_or_empty_of d
   Ok (query.Name name)
 
--- `text`, `start` (false), `end` (false), `fold` (false)
+-- table of `pattern`: `text`, `start` (false), `end` (false), `fold` (false)
 unfoldable pub pattern_ask : AskPlace → Data → Read Query
 pattern_ask at d = do
   checked ← with_fields (ask_fields at (codes "text" ∷ codes "start" ∷ codes "end" ∷ codes "fold" ∷ [])) d
@@ -114,7 +114,7 @@ ask_by_word at format word d =
     else (if is_word (codes "overrides") word then asked query.Overrides (one_text at (codes "usr") d)
     else name_by_word at format word d)))))
 
--- `query` is read before the fields are judged, and the word says which fields there are
+-- rule of asks: `query` is read before the fields are judged, and the word says which fields there are
 unfoldable pub ask_of : AskPlace → Format → Data → Read Query
 ask_of at format d = do
   word ← field (codes "query") string_of d
@@ -126,21 +126,21 @@ ask_alone_of d = do
   members ← object_of d
   ask_of Alone Two d
 
--- `unit`
+-- table of `build`: `unit`
 unfoldable pub build_of : Format → Data → Read Step
 build_of format d = do
   checked ← with_fields (codes "do" ∷ codes "unit" ∷ []) d
   unit ← field (codes "unit") (unit_of format) d
   Ok (Build unit)
 
--- `output`
+-- table of `remove`: `output`
 unfoldable pub remove_of : Data → Read Step
 remove_of d = do
   checked ← with_fields (codes "do" ∷ codes "output" ∷ []) d
   output ← field (codes "output") text_of d
   Ok (Remove output)
 
--- no field
+-- table of `poll`, `refresh`, `release`, `collect`: no field
 unfoldable pub plain_step : Step → Data → Read Step
 plain_step step d = with_fields (codes "do" ∷ []) d >>= λ checked. Ok step
 
@@ -161,12 +161,17 @@ step_by_word format word d =
     else (if is_word (codes "collect") word then plain_step Collect d
     else unknown_word (codes "do")))))))
 
--- `do` is read before the fields are judged
+-- the step of an object
+abbrev pub step_by_do : Format → Data → Read Step
+step_by_do format d = field (codes "do") string_of d >>= λ word. step_by_word format word d
+
+-- rule of steps: what isn't an object is refused, then `do` is read, before the fields are judged
 unfoldable pub step_of : Format → Data → Read Step
 step_of format d = do
   members ← object_of d
   word ← field (codes "do") string_of d
   step_by_word format word d
 
+-- limit: at most 4,096 steps
 unfoldable pub lane_of : Format → Data → Read (List Step)
 lane_of format d = list_of what.Steps 4096 (λ before. step_of format) d

@@ -31,7 +31,7 @@ flag_of d = allowed (as_bool d)
 abbrev pub number_of : Data → Read ℕ
 number_of d = allowed (option_and_then as_u64 (as_number d))
 
--- one from 1 to the greatest
+-- limit: one from 1 to the greatest
 abbrev pub count_of : ℕ → Data → Read ℕ
 count_of most d = number_of d >>= λ n. tested (nat_le 1 n && nat_le n most) n
 
@@ -61,18 +61,18 @@ with_bit mask bit = bit_or mask (2 ^ bit)
 abbrev pub bits_from : (Data → Read ℕ) → Items → Read ℕ
 bits_from word ds = in_order (λ mask. word) with_bit 0 0 ds
 
--- those of a list of at most 64 words
+-- limit: those of a list of at most 64 words
 abbrev pub bits_of : (Data → Read ℕ) → Data → Read ℕ
 bits_of word d = items_of Words 64 d >>= bits_from word
 
--- those of a list of 1 to 64 words: an empty one is refused at its place
+-- limit, and the rule of empty lists: those of a list of 1 to 64 words; an empty one is refused at its place, before any item
 abbrev pub some_bits_from : (Data → Read ℕ) → Items → Read ℕ
 some_bits_from word ds = if items_count ds == 0 then bad_value else bits_from word ds
 
 abbrev pub some_bits_of : (Data → Read ℕ) → Data → Read ℕ
 some_bits_of word d = items_of Words 64 d >>= some_bits_from word
 
--- a USR that no symbol before has, and one that some symbol has
+-- rule of USRs: one that no symbol before has, and one that some symbol has; each is judged as its field is read
 abbrev pub new_usr_of : (List ℕ → Bool) → Data → Read (List ℕ)
 new_usr_of taken d = text_of d >>= λ usr. if taken usr then bad_value else Ok usr
 

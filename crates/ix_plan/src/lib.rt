@@ -1,15 +1,18 @@
 //! Scripts of lanes: the steps, the described compile jobs, and how they are read from JSON.
 #![tactic(auto)]
 
+mod borrow;
 mod fields;
-mod json;
 pub mod laws;
+mod objects;
+mod parse;
 mod plan;
 mod refusal;
 mod script;
 mod steps;
 mod symbol_table;
 mod units;
+mod value;
 mod values;
 mod words;
 

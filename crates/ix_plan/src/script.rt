@@ -1,6 +1,6 @@
 //! Reading a script from JSON.
 ghost use Rattle.std.specs.Prelude.{◌≡◌, [], ◌<◌, ◌≤◌, length, codes, IfOk, IfSome, Ok, Err};
-ghost use Rattle.serde_json.specs.View.{view};
+ghost use Rattle.ix_plan.specs.View.{view};
 ghost use Rattle.ix_plan.specs.Read.{Gives};
 ghost use Rattle.ix_plan.specs.Json.{field, field_or};
 ghost use Rattle.ix_plan.specs.Values.{number_of};
@@ -8,14 +8,15 @@ ghost use Rattle.ix_plan.specs.Reading.{format_of, fields_of, polls, is_poll, se
 ghost use Rattle.ix_plan.specs.Keeps.{IsAccepted};
 
 use crate::fields::{Item, list, list_or_none};
-use crate::json::{bad_value, json, member, with_fields, within};
+use crate::objects::{bad_value, member, value, with_fields, within};
 use crate::plan::{Script, Step};
 use crate::refusal::{ScriptError, ScriptRefusal, What};
 use crate::units::Setting;
+use crate::value::Value;
 use crate::values::number;
 use crate::words::Words;
 use ix_types::{Format, Seq};
-use serde_json::Value;
+use json::Scratch;
 use std::alloc::Global;
 
 /// The most lanes of a script.
@@ -25,7 +26,7 @@ const MAX_LANES: usize = 16;
 const MAX_ORDER: usize = 65_536;
 
 /// The format of a script: the number 1 or 2.
-fn format(alloc: Global, value: &Value) -> Result<Format, ScriptError>
+fn format(alloc: Global, value: &Value<'_>) -> Result<Format, ScriptError>
     ensures { Gives result (format_of (view value.now)) }
 {
     let number = number(alloc, value)?;
@@ -38,7 +39,7 @@ fn format(alloc: Global, value: &Value) -> Result<Format, ScriptError>
     bad_value(alloc)
 }
 
-fn format_field(alloc: Global, value: &Value) -> Result<Format, ScriptError>
+fn format_field(alloc: Global, value: &Value<'_>) -> Result<Format, ScriptError>
     ensures { Gives result (field (codes "format") format_of (view value.now)) }
 {
     let found = member(alloc, value, "format")?;
@@ -56,7 +57,7 @@ impl Item<LaneCount> for u32 {
 
     ghost of = { λ count. lane_number_of count.lanes };
 
-    fn read(alloc: Global, count: &LaneCount, value: &Value) -> Result<u32, ScriptError> {
+    fn read(alloc: Global, count: &LaneCount, value: &Value<'_>) -> Result<u32, ScriptError> {
         let number = number(alloc, value)?;
         if number < u64::from(count.lanes) {
             Ok(number as u32)
@@ -68,7 +69,11 @@ impl Item<LaneCount> for u32 {
 
 /// The order of a script, none where it is absent.
 #[tactic(auto, unfolding(crate::specs::Reading::order_of))]
-fn order_or_none(alloc: Global, lanes: &[Seq<Step>], value: &Value) -> Result<Seq<u32>, ScriptError>
+fn order_or_none(
+    alloc: Global,
+    lanes: &[Seq<Step>],
+    value: &Value<'_>,
+) -> Result<Seq<u32>, ScriptError>
     requires { length lanes.now ≤ 16 }
     ensures { Gives result (field_or [] (codes "order") (order_of (length lanes.now)) (view value.now)) }
 {
@@ -82,7 +87,7 @@ fn order_or_none(alloc: Global, lanes: &[Seq<Step>], value: &Value) -> Result<Se
 fn lanes_field(
     alloc: Global,
     setting: &Setting,
-    value: &Value,
+    value: &Value<'_>,
 ) -> Result<Seq<Seq<Step>>, ScriptError>
     ensures { Gives result (field (codes "lanes") (lanes_of setting.now.format) (view value.now)) }
 {
@@ -95,7 +100,7 @@ fn lanes_field(
 }
 
 /// The lanes of a script, at most 16.
-fn lanes(alloc: Global, setting: &Setting, value: &Value) -> Result<Seq<Seq<Step>>, ScriptError>
+fn lanes(alloc: Global, setting: &Setting, value: &Value<'_>) -> Result<Seq<Seq<Step>>, ScriptError>
     ensures lanes { Gives result (field (codes "lanes") (lanes_of setting.now.format) (view value.now)) }
     ensures few { IfOk result (λ lanes. length lanes ≤ 16) }
 {
@@ -107,7 +112,7 @@ fn lanes(alloc: Global, setting: &Setting, value: &Value) -> Result<Seq<Seq<Step
 
 /// The lanes and the order of a script.
 #[tactic(auto, unfolding(crate::specs::Reading::fields_of))]
-fn fields(alloc: Global, value: &Value) -> Result<Script, ScriptError>
+fn fields(alloc: Global, value: &Value<'_>) -> Result<Script, ScriptError>
     ensures fields { Gives result (fields_of (view value.now)) }
     ensures few { IfOk result (λ script. length script.lanes ≤ 16) }
 {
@@ -158,7 +163,7 @@ fn one_poller(script: Script) -> Result<Script, ScriptError>
 }
 
 /// The script of a JSON value.
-fn script(alloc: Global, value: &Value) -> Result<Script, ScriptError>
+fn script(alloc: Global, value: &Value<'_>) -> Result<Script, ScriptError>
     ensures { Gives result (script_of_json (view value.now)) }
 {
     let script = fields(alloc, value)?;
@@ -172,7 +177,8 @@ impl Script {
         ensures refused { (r : ScriptRefusal) → result ≡ Err (ScriptError.Refused r) → script_of bytes.now ≡ Err r }
         ensures kept { IfOk result IsAccepted }
     {
-        let value = json(alloc, bytes)?;
+        let mut scratch = Scratch::new(alloc);
+        let value = value(alloc, bytes, &mut scratch)?;
         script(alloc, &value)
     }
 }

@@ -1,23 +1,25 @@
 //! Reading steps and asks from a JSON value, by their words.
 ghost use Rattle.std.specs.Prelude.{◌≡◌, List, ℕ, map, codes, Bool, IfOk, Ok, Err};
-ghost use Rattle.serde_json.specs.View.{view};
+ghost use Rattle.serde_json.specs.View as owned;
+ghost use Rattle.ix_plan.specs.View.{view};
 ghost use Rattle.ix_plan.specs.Read.{Read, Gives, GivesAs};
 ghost use Rattle.ix_plan.specs.Json.{field, with_fields};
 ghost use Rattle.ix_plan.specs.Values.{string_of, bit_of, some_bits_of};
-ghost use Rattle.ix_plan.specs.Steps.{unknown_word, ask_fields, one_text, usr_and_roles, usr_and_depth, name_ask, pattern_ask, walk_by_word, path_by_word, name_by_word, ask_by_word, ask_of, ask_alone_of, build_of, remove_of, plain_step, ask_step, step_by_word, step_of, lane_of};
+ghost use Rattle.ix_plan.specs.Steps.{unknown_word, ask_fields, one_text, usr_and_roles, usr_and_depth, name_ask, pattern_ask, walk_by_word, path_by_word, name_by_word, ask_by_word, ask_of, ask_alone_of, build_of, remove_of, plain_step, ask_step, step_by_word, step_by_do, step_of, lane_of};
 ghost use Rattle.ix_plan.specs.Keeps.{IsAsk};
 
+use crate::borrow::borrow;
 use crate::fields::{
     Item, count_field, flag_or_false, list, roles_field, text_field, text_or_empty_field,
 };
-use crate::json::{bad_value, member, object, with_fields, with_more_fields, within};
+use crate::objects::{bad_value, member, with_fields, with_more_fields, within};
 use crate::plan::Step;
 use crate::refusal::{ScriptError, ScriptRefusal, What};
 use crate::units::{Setting, unit};
+use crate::value::Value;
 use crate::values::{WordSort, string};
 use crate::words::Words;
 use ix_types::{Format, Query, Roles, Seq, Text};
-use serde_json::Value;
 use std::alloc::Global;
 
 /// The most steps of a lane.
@@ -37,7 +39,7 @@ pub enum AskPlace {
 fn with_ask_fields(
     alloc: Global,
     at: AskPlace,
-    value: &Value,
+    value: &Value<'_>,
     names: &[&str],
 ) -> Result<(), ScriptError>
     ensures { Gives result (with_fields (ask_fields at (map (λ name. name.now) names.now)) (view value.now)) }
@@ -49,7 +51,7 @@ fn with_ask_fields(
 }
 
 /// A field whose value is a string.
-fn word_field<'v>(alloc: Global, value: &'v Value, name: &str) -> Result<&'v str, ScriptError>
+fn word_field<'a>(alloc: Global, value: &Value<'a>, name: &str) -> Result<&'a str, ScriptError>
     ensures { GivesAs (λ word. word.now) result (field name.now string_of (view value.now)) }
 {
     let found = member(alloc, value, name)?;
@@ -68,7 +70,7 @@ fn unknown_word<T: Drop>(alloc: Global, name: &str) -> Result<T, ScriptError>
 
 /// The one field of an ask, a text.
 #[tactic(auto, unfolding(crate::specs::Steps::one_text))]
-fn one_text(alloc: Global, at: AskPlace, value: &Value, name: &str) -> Result<Text, ScriptError>
+fn one_text(alloc: Global, at: AskPlace, value: &Value<'_>, name: &str) -> Result<Text, ScriptError>
     ensures { Gives result (one_text at name.now (view value.now)) }
 {
     with_ask_fields(alloc, at, value, &[name])?;
@@ -81,7 +83,7 @@ fn usr_and_roles(
     alloc: Global,
     at: AskPlace,
     setting: &Setting,
-    value: &Value,
+    value: &Value<'_>,
     sort: WordSort,
 ) -> Result<(Text, Roles), ScriptError>
     ensures { Gives result (usr_and_roles at (bit_of sort) (view value.now)) }
@@ -94,7 +96,7 @@ fn usr_and_roles(
 
 /// The fields of a walk.
 #[tactic(auto, unfolding(crate::specs::Steps::usr_and_depth))]
-fn usr_and_depth(alloc: Global, at: AskPlace, value: &Value) -> Result<(Text, u32), ScriptError>
+fn usr_and_depth(alloc: Global, at: AskPlace, value: &Value<'_>) -> Result<(Text, u32), ScriptError>
     ensures { Gives result (usr_and_depth at (view value.now)) }
 {
     with_ask_fields(alloc, at, value, &["usr", "depth"])?;
@@ -104,7 +106,7 @@ fn usr_and_depth(alloc: Global, at: AskPlace, value: &Value) -> Result<(Text, u3
 }
 
 #[tactic(auto, unfolding(crate::specs::Steps::name_ask))]
-fn name_ask(alloc: Global, at: AskPlace, value: &Value) -> Result<Query, ScriptError>
+fn name_ask(alloc: Global, at: AskPlace, value: &Value<'_>) -> Result<Query, ScriptError>
     ensures { Gives result (name_ask at (view value.now)) }
 {
     with_ask_fields(alloc, at, value, &["name"])?;
@@ -113,7 +115,7 @@ fn name_ask(alloc: Global, at: AskPlace, value: &Value) -> Result<Query, ScriptE
 }
 
 #[tactic(auto, unfolding(crate::specs::Steps::pattern_ask))]
-fn pattern_ask(alloc: Global, at: AskPlace, value: &Value) -> Result<Query, ScriptError>
+fn pattern_ask(alloc: Global, at: AskPlace, value: &Value<'_>) -> Result<Query, ScriptError>
     ensures { Gives result (pattern_ask at (view value.now)) }
 {
     with_ask_fields(alloc, at, value, &["text", "start", "end", "fold"])?;
@@ -130,7 +132,7 @@ fn pattern_ask(alloc: Global, at: AskPlace, value: &Value) -> Result<Query, Scri
 }
 
 #[tactic(auto, unfolding(crate::specs::Steps::walk_by_word))]
-fn walk(alloc: Global, at: AskPlace, word: &str, value: &Value) -> Result<Query, ScriptError>
+fn walk(alloc: Global, at: AskPlace, word: &str, value: &Value<'_>) -> Result<Query, ScriptError>
     ensures { Gives result (walk_by_word at word.now (view value.now)) }
 {
     if word == "incoming" {
@@ -153,7 +155,12 @@ fn walk(alloc: Global, at: AskPlace, word: &str, value: &Value) -> Result<Query,
 }
 
 #[tactic(auto, unfolding(crate::specs::Steps::path_by_word))]
-fn path_ask(alloc: Global, at: AskPlace, word: &str, value: &Value) -> Result<Query, ScriptError>
+fn path_ask(
+    alloc: Global,
+    at: AskPlace,
+    word: &str,
+    value: &Value<'_>,
+) -> Result<Query, ScriptError>
     ensures { Gives result (path_by_word at word.now (view value.now)) }
 {
     if word == "symbols" {
@@ -185,7 +192,7 @@ fn named_ask(
     at: AskPlace,
     format: Format,
     word: &str,
-    value: &Value,
+    value: &Value<'_>,
 ) -> Result<Query, ScriptError>
     ensures { Gives result (name_by_word at format word.now (view value.now)) }
 {
@@ -209,7 +216,7 @@ fn ask_by_word(
     at: AskPlace,
     setting: &Setting,
     word: &str,
-    value: &Value,
+    value: &Value<'_>,
 ) -> Result<Query, ScriptError>
     ensures { Gives result (ask_by_word at setting.now.format word.now (view value.now)) }
 {
@@ -242,7 +249,12 @@ fn ask_by_word(
 
 /// An ask.
 #[tactic(auto, unfolding(crate::specs::Steps::ask_of))]
-fn ask(alloc: Global, at: AskPlace, setting: &Setting, value: &Value) -> Result<Query, ScriptError>
+fn ask(
+    alloc: Global,
+    at: AskPlace,
+    setting: &Setting,
+    value: &Value<'_>,
+) -> Result<Query, ScriptError>
     ensures { Gives result (ask_of at setting.now.format (view value.now)) }
 {
     let word = word_field(alloc, value, "query")?;
@@ -251,29 +263,32 @@ fn ask(alloc: Global, at: AskPlace, setting: &Setting, value: &Value) -> Result<
 
 /// An ask that is no step of a script.
 #[tactic(auto, unfolding(crate::specs::Steps::ask_alone_of))]
-fn ask_alone(alloc: Global, value: &Value) -> Result<Query, ScriptError>
+fn ask_alone(alloc: Global, value: &Value<'_>) -> Result<Query, ScriptError>
     ensures { Gives result (ask_alone_of (view value.now)) }
 {
-    object(alloc, value)?;
     let setting = Setting {
         words: Words::new(),
         format: Format::Two,
     };
-    ask(alloc, AskPlace::Alone, &setting, value)
+    match value.as_object() {
+        Some(_members) => ask(alloc, AskPlace::Alone, &setting, value),
+        None => bad_value(alloc),
+    }
 }
 
 /// The ask that a value spells by itself, as in a script of format 2 but with no `do`, or the first refusal in reading order. Places are those
 /// from the value on.
-pub fn read_ask(alloc: Global, value: &Value) -> Result<Query, ScriptError>
-    ensures accepted { IfOk result (λ ask. ask_alone_of (view value.now) ≡ Ok ask) }
-    ensures refused { (r : ScriptRefusal) → result ≡ Err (ScriptError.Refused r) → ask_alone_of (view value.now) ≡ Err r }
+pub fn read_ask(alloc: Global, value: &serde_json::Value) -> Result<Query, ScriptError>
+    ensures accepted { IfOk result (λ ask. ask_alone_of (owned.view value.now) ≡ Ok ask) }
+    ensures refused { (r : ScriptRefusal) → result ≡ Err (ScriptError.Refused r) → ask_alone_of (owned.view value.now) ≡ Err r }
     ensures kept { IfOk result IsAsk }
 {
-    ask_alone(alloc, value)
+    let value = borrow(alloc, value)?;
+    ask_alone(alloc, &value)
 }
 
 #[tactic(auto, unfolding(crate::specs::Steps::build_of))]
-fn build(alloc: Global, setting: &Setting, value: &Value) -> Result<Step, ScriptError>
+fn build(alloc: Global, setting: &Setting, value: &Value<'_>) -> Result<Step, ScriptError>
     ensures { Gives result (build_of setting.now.format (view value.now)) }
 {
     with_fields(alloc, value, &["do", "unit"])?;
@@ -283,7 +298,7 @@ fn build(alloc: Global, setting: &Setting, value: &Value) -> Result<Step, Script
 }
 
 #[tactic(auto, unfolding(crate::specs::Steps::remove_of))]
-fn remove(alloc: Global, value: &Value) -> Result<Step, ScriptError>
+fn remove(alloc: Global, value: &Value<'_>) -> Result<Step, ScriptError>
     ensures { Gives result (remove_of (view value.now)) }
 {
     with_fields(alloc, value, &["do", "output"])?;
@@ -292,7 +307,7 @@ fn remove(alloc: Global, value: &Value) -> Result<Step, ScriptError>
 }
 
 #[tactic(auto, unfolding(crate::specs::Steps::plain_step))]
-fn plain(alloc: Global, value: &Value, step: Step) -> Result<Step, ScriptError>
+fn plain(alloc: Global, value: &Value<'_>, step: Step) -> Result<Step, ScriptError>
     ensures { Gives result (plain_step step (view value.now)) }
 {
     with_fields(alloc, value, &["do"])?;
@@ -300,7 +315,7 @@ fn plain(alloc: Global, value: &Value, step: Step) -> Result<Step, ScriptError>
 }
 
 #[tactic(auto, unfolding(crate::specs::Steps::ask_step))]
-fn ask_step(alloc: Global, setting: &Setting, value: &Value) -> Result<Step, ScriptError>
+fn ask_step(alloc: Global, setting: &Setting, value: &Value<'_>) -> Result<Step, ScriptError>
     ensures { Gives result (ask_step setting.now.format (view value.now)) }
 {
     let query = ask(alloc, AskPlace::Among, setting, value)?;
@@ -312,7 +327,7 @@ fn step_by_word(
     alloc: Global,
     setting: &Setting,
     word: &str,
-    value: &Value,
+    value: &Value<'_>,
 ) -> Result<Step, ScriptError>
     ensures { Gives result (step_by_word setting.now.format word.now (view value.now)) }
 {
@@ -340,16 +355,25 @@ fn step_by_word(
     unknown_word(alloc, "do")
 }
 
+/// The step of an object.
+fn step(alloc: Global, setting: &Setting, value: &Value<'_>) -> Result<Step, ScriptError>
+    ensures { Gives result (step_by_do setting.now.format (view value.now)) }
+{
+    let word = word_field(alloc, value, "do")?;
+    step_by_word(alloc, setting, word, value)
+}
+
 impl Item<Setting> for Step {
     ghost use Rattle.ix_plan.specs.Steps.{step_of};
 
     ghost of = { λ setting. step_of setting.format };
 
     #[tactic(auto, unfolding(crate::specs::Steps::step_of))]
-    fn read(alloc: Global, setting: &Setting, value: &Value) -> Result<Step, ScriptError> {
-        object(alloc, value)?;
-        let word = word_field(alloc, value, "do")?;
-        step_by_word(alloc, setting, word, value)
+    fn read(alloc: Global, setting: &Setting, value: &Value<'_>) -> Result<Step, ScriptError> {
+        match value.as_object() {
+            Some(_members) => step(alloc, setting, value),
+            None => bad_value(alloc),
+        }
     }
 }
 
@@ -359,7 +383,7 @@ impl Item<Setting> for Seq<Step> {
     ghost of = { λ setting. lane_of setting.format };
 
     #[tactic(auto, unfolding(crate::specs::Steps::lane_of))]
-    fn read(alloc: Global, setting: &Setting, value: &Value) -> Result<Seq<Step>, ScriptError> {
+    fn read(alloc: Global, setting: &Setting, value: &Value<'_>) -> Result<Seq<Step>, ScriptError> {
         list(alloc, setting, value, What::Steps, MAX_STEPS)
     }
 }

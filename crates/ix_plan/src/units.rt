@@ -1,10 +1,10 @@
 //! Reading the plan of a compile job from a JSON value, one reader an object.
 ghost use Rattle.std.specs.Prelude.{◌≡◌, [], codes, false};
-ghost use Rattle.serde_json.specs.View.{view, items_view};
+ghost use Rattle.ix_plan.specs.View.{view, items_view};
 ghost use Rattle.ix_types.specs.Codes as tables;
 ghost use Rattle.ix_types.specs.Codes.{swift_code};
 ghost use Rattle.ix_plan.specs.Read.{Gives};
-ghost use Rattle.ix_plan.specs.Json.{field, field_or, in_order, one_more, with_fields};
+ghost use Rattle.ix_plan.specs.Json.{field, field_or, in_order, one_more, with_fields, few_of};
 ghost use Rattle.ix_plan.specs.Values.{word_of, bits_of, prop_of, new_usr_of, known_usr_of};
 ghost use Rattle.ix_plan.specs.Plans.{symbol_of, symbols_of, occurrences_of, unknown_code, codegen_of, is_usr_of, symbol_fields, unit_of};
 
@@ -12,16 +12,16 @@ use crate::fields::{
     Item, count_field, flag_or_false, list, list_or_none, no_text, roles_field, text_field,
     text_or_none,
 };
-use crate::json::{items, member, with_fields, within, within_item};
+use crate::objects::{bad_value, member, with_fields, within, within_item};
 use crate::plan::{
     FilePlan, IncludePlan, OccurrencePlan, RecordPlan, RelationPlan, SymbolPlan, UnitPlan,
 };
-use crate::refusal::{ScriptError, What};
+use crate::refusal::{ScriptError, ScriptRefusal, What};
 use crate::symbol_table::SymbolTable;
+use crate::value::Value;
 use crate::values::{WordSort, kind, known_usr, lang, new_usr, props, text};
 use crate::words::Words;
 use ix_types::{Format, Kind, Lang, Props, Seq, Text};
-use serde_json::Value;
 use std::alloc::Global;
 
 /// The most units, records, files and includes of a compile job, each.
@@ -55,7 +55,7 @@ impl Item<Setting> for Text {
 
     ghost of = { λ setting. text_of };
 
-    fn read(alloc: Global, _setting: &Setting, value: &Value) -> Result<Text, ScriptError> {
+    fn read(alloc: Global, _setting: &Setting, value: &Value<'_>) -> Result<Text, ScriptError> {
         text(alloc, value)
     }
 }
@@ -66,7 +66,7 @@ impl Item<Setting> for FilePlan {
     ghost of = { λ setting. file_of };
 
     #[tactic(auto, unfolding(crate::specs::Plans::file_of))]
-    fn read(alloc: Global, _setting: &Setting, value: &Value) -> Result<FilePlan, ScriptError> {
+    fn read(alloc: Global, _setting: &Setting, value: &Value<'_>) -> Result<FilePlan, ScriptError> {
         with_fields(alloc, value, &["path", "system"])?;
         let path = text_field(alloc, value, "path")?;
         let system = flag_or_false(alloc, value, "system")?;
@@ -80,7 +80,11 @@ impl Item<Setting> for IncludePlan {
     ghost of = { λ setting. include_of };
 
     #[tactic(auto, unfolding(crate::specs::Plans::include_of))]
-    fn read(alloc: Global, _setting: &Setting, value: &Value) -> Result<IncludePlan, ScriptError> {
+    fn read(
+        alloc: Global,
+        _setting: &Setting,
+        value: &Value<'_>,
+    ) -> Result<IncludePlan, ScriptError> {
         with_fields(alloc, value, &["from", "line", "to"])?;
         let from = text_field(alloc, value, "from")?;
         let line = count_field(alloc, value, "line", MAX_COORDINATE)?;
@@ -90,7 +94,11 @@ impl Item<Setting> for IncludePlan {
 }
 
 /// The USR of one of the symbols.
-fn known_usr_field(alloc: Global, table: &SymbolTable, value: &Value) -> Result<Text, ScriptError>
+fn known_usr_field(
+    alloc: Global,
+    table: &SymbolTable,
+    value: &Value<'_>,
+) -> Result<Text, ScriptError>
     ensures { Gives result (field (codes "usr") (known_usr_of (is_usr_of table.now)) (view value.now)) }
 {
     let found = member(alloc, value, "usr")?;
@@ -107,7 +115,7 @@ impl<'s> Item<Around<'s>> for RelationPlan {
     fn read(
         alloc: Global,
         around: &Around<'s>,
-        value: &Value,
+        value: &Value<'_>,
     ) -> Result<RelationPlan, ScriptError> {
         with_fields(alloc, value, &["usr", "roles"])?;
         let usr = known_usr_field(alloc, around.table, value)?;
@@ -126,7 +134,7 @@ impl<'s> Item<Around<'s>> for OccurrencePlan {
     fn read(
         alloc: Global,
         around: &Around<'s>,
-        value: &Value,
+        value: &Value<'_>,
     ) -> Result<OccurrencePlan, ScriptError> {
         with_fields(alloc, value, &["usr", "line", "col", "roles", "relations"])?;
         let usr = known_usr_field(alloc, around.table, value)?;
@@ -152,7 +160,7 @@ impl<'s> Item<Around<'s>> for OccurrencePlan {
 }
 
 /// The USR of a symbol beside those before it.
-fn new_usr_field(alloc: Global, table: &SymbolTable, value: &Value) -> Result<Text, ScriptError>
+fn new_usr_field(alloc: Global, table: &SymbolTable, value: &Value<'_>) -> Result<Text, ScriptError>
     ensures { Gives result (field (codes "usr") (new_usr_of (is_usr_of table.now)) (view value.now)) }
 {
     let found = member(alloc, value, "usr")?;
@@ -160,7 +168,7 @@ fn new_usr_field(alloc: Global, table: &SymbolTable, value: &Value) -> Result<Te
 }
 
 /// The kind of a symbol, unknown where it is absent.
-fn kind_or_unknown(alloc: Global, words: &Words, value: &Value) -> Result<Kind, ScriptError>
+fn kind_or_unknown(alloc: Global, words: &Words, value: &Value<'_>) -> Result<Kind, ScriptError>
     ensures { Gives result (field_or unknown_code (codes "kind") (word_of tables.kinds) (view value.now)) }
 {
     match value.get("kind") {
@@ -179,7 +187,7 @@ fn unknown_kind() -> Kind
 }
 
 /// The language of a symbol, Swift where it is absent.
-fn lang_or_swift(alloc: Global, words: &Words, value: &Value) -> Result<Lang, ScriptError>
+fn lang_or_swift(alloc: Global, words: &Words, value: &Value<'_>) -> Result<Lang, ScriptError>
     ensures { Gives result (field_or swift_code (codes "lang") (word_of tables.langs) (view value.now)) }
 {
     match value.get("lang") {
@@ -189,7 +197,7 @@ fn lang_or_swift(alloc: Global, words: &Words, value: &Value) -> Result<Lang, Sc
 }
 
 /// The properties of a symbol, none where they are absent.
-fn props_or_none(alloc: Global, words: &Words, value: &Value) -> Result<Props, ScriptError>
+fn props_or_none(alloc: Global, words: &Words, value: &Value<'_>) -> Result<Props, ScriptError>
     ensures { Gives result (field_or 0 (codes "props") (bits_of prop_of) (view value.now)) }
 {
     match value.get("props") {
@@ -208,7 +216,7 @@ fn no_props() -> Props
 }
 
 /// Refuses a symbol with a field that its format doesn't have.
-fn with_symbol_fields(alloc: Global, format: Format, value: &Value) -> Result<(), ScriptError>
+fn with_symbol_fields(alloc: Global, format: Format, value: &Value<'_>) -> Result<(), ScriptError>
     ensures { Gives result (with_fields (symbol_fields format) (view value.now)) }
 {
     match format {
@@ -222,7 +230,7 @@ fn with_symbol_fields(alloc: Global, format: Format, value: &Value) -> Result<()
 }
 
 /// The code generation name, empty where it is absent and in format One.
-fn codegen(alloc: Global, format: Format, value: &Value) -> Result<Text, ScriptError>
+fn codegen(alloc: Global, format: Format, value: &Value<'_>) -> Result<Text, ScriptError>
     ensures { Gives result (codegen_of format (view value.now)) }
 {
     match format {
@@ -237,7 +245,7 @@ fn symbol(
     alloc: Global,
     setting: &Setting,
     table: &SymbolTable,
-    value: &Value,
+    value: &Value<'_>,
 ) -> Result<SymbolPlan, ScriptError>
     ensures { Gives result (symbol_of setting.now.format (is_usr_of table.now) (view value.now)) }
 {
@@ -262,7 +270,7 @@ fn symbol(
 fn each_symbol(
     alloc: Global,
     setting: &Setting,
-    values: &[Value],
+    values: &[Value<'_>],
 ) -> Result<SymbolTable, ScriptError>
     ensures { Gives result (in_order (λ before. symbol_of setting.now.format (is_usr_of before)) one_more [] 0 (items_view values.now)) }
 {
@@ -275,10 +283,29 @@ fn each_symbol(
     Ok(table)
 }
 
-fn symbols(alloc: Global, setting: &Setting, value: &Value) -> Result<SymbolTable, ScriptError>
+fn symbols(alloc: Global, setting: &Setting, value: &Value<'_>) -> Result<SymbolTable, ScriptError>
     ensures { Gives result (symbols_of setting.now.format (view value.now)) }
 {
-    let values = items(alloc, value, What::Symbols, MAX_ENTRIES)?;
+    match value.as_array() {
+        Some(values) => few_symbols(alloc, setting, values),
+        None => bad_value(alloc),
+    }
+}
+
+/// The symbols, where they are at most 65,536.
+#[tactic(auto, using(crate::proofs::Items::items_count_items_view))]
+fn few_symbols(
+    alloc: Global,
+    setting: &Setting,
+    values: &[Value<'_>],
+) -> Result<SymbolTable, ScriptError>
+    ensures { Gives result (few_of What.Symbols 65536 (in_order (λ before. symbol_of setting.now.format (is_usr_of before)) one_more [] 0) (items_view values.now)) }
+{
+    if values.len() > MAX_ENTRIES {
+        return Err(ScriptError::Refused(ScriptRefusal::TooMany {
+            what: What::Symbols,
+        }));
+    }
     each_symbol(alloc, setting, values)
 }
 
@@ -286,7 +313,7 @@ fn symbols(alloc: Global, setting: &Setting, value: &Value) -> Result<SymbolTabl
 fn symbols_or_none(
     alloc: Global,
     setting: &Setting,
-    value: &Value,
+    value: &Value<'_>,
 ) -> Result<SymbolTable, ScriptError>
     ensures { Gives result (field_or [] (codes "symbols") (symbols_of setting.now.format) (view value.now)) }
 {
@@ -301,7 +328,7 @@ fn occurrences_or_none(
     alloc: Global,
     setting: &Setting,
     table: &SymbolTable,
-    value: &Value,
+    value: &Value<'_>,
 ) -> Result<Seq<OccurrencePlan>, ScriptError>
     ensures { Gives result (field_or [] (codes "occurrences") (occurrences_of table.now) (view value.now)) }
 {
@@ -325,7 +352,11 @@ impl Item<Setting> for RecordPlan {
     ghost of = { λ setting. record_of setting.format };
 
     #[tactic(auto, unfolding(crate::specs::Plans::record_of))]
-    fn read(alloc: Global, setting: &Setting, value: &Value) -> Result<RecordPlan, ScriptError> {
+    fn read(
+        alloc: Global,
+        setting: &Setting,
+        value: &Value<'_>,
+    ) -> Result<RecordPlan, ScriptError> {
         with_fields(alloc, value, &["path", "system", "symbols", "occurrences"])?;
         let path = text_field(alloc, value, "path")?;
         let system = flag_or_false(alloc, value, "system")?;
@@ -343,7 +374,7 @@ impl Item<Setting> for RecordPlan {
 
 /// The plan of a compile job.
 #[tactic(auto, unfolding(crate::specs::Plans::unit_of))]
-pub fn unit(alloc: Global, setting: &Setting, value: &Value) -> Result<UnitPlan, ScriptError>
+pub fn unit(alloc: Global, setting: &Setting, value: &Value<'_>) -> Result<UnitPlan, ScriptError>
     ensures { Gives result (unit_of setting.now.format (view value.now)) }
 {
     with_fields(

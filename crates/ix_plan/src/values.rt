@@ -1,19 +1,20 @@
 //! Reading the values of fields: texts, numbers, truth values, words and USRs.
 ghost use Rattle.std.specs.Prelude.{◌≡◌, ◌<◌, ◌^◌, ◌||◌, List, ℕ, IfOk, is_none};
-ghost use Rattle.serde_json.specs.View.{view, items_view};
+ghost use Rattle.ix_plan.specs.View.{view, items_view};
 ghost use Rattle.ix_types.specs.Codes as tables;
 ghost use Rattle.ix_plan.specs.Read.{Gives, GivesAs, within};
+ghost use Rattle.ix_plan.specs.Json.{few_of};
 ghost use Rattle.std.specs.Fmt.{decimal};
 ghost use Rattle.ix_plan.specs.Plans.{is_usr_of};
 ghost use Rattle.ix_plan.specs.Values.{string_of, text_of, text_or_empty_of, flag_of, number_of, count_of, word_of, tested, role_of, relation_of, prop_of, bit_of, width, with_bit, bits_from, bits_of, some_bits_from, some_bits_of, new_usr_of, known_usr_of};
 ghost use Rattle.ix_types.specs.Text.{refusal};
 
-use crate::json::{bad_value, items, within_item};
-use crate::refusal::{ScriptError, What};
+use crate::objects::{bad_value, within_item};
+use crate::refusal::{ScriptError, ScriptRefusal, What};
 use crate::symbol_table::SymbolTable;
+use crate::value::Value;
 use crate::words::Words;
 use ix_types::{Kind, Lang, Props, Roles, Text, TextError};
-use serde_json::Value;
 use std::alloc::Global;
 
 /// The most words of a list.
@@ -28,7 +29,7 @@ pub enum WordSort {
 }
 
 /// The string.
-pub fn string(alloc: Global, value: &Value) -> Result<&str, ScriptError>
+pub fn string<'a>(alloc: Global, value: &Value<'a>) -> Result<&'a str, ScriptError>
     ensures { GivesAs (λ string. string.now) result (string_of (view value.now)) }
 {
     match value.as_str() {
@@ -38,7 +39,7 @@ pub fn string(alloc: Global, value: &Value) -> Result<&str, ScriptError>
 }
 
 /// The string, where it is a text.
-pub fn text(alloc: Global, value: &Value) -> Result<Text, ScriptError>
+pub fn text(alloc: Global, value: &Value<'_>) -> Result<Text, ScriptError>
     ensures { Gives result (text_of (view value.now)) }
 {
     text_from(alloc, string(alloc, value)?)
@@ -55,7 +56,7 @@ fn text_from(alloc: Global, string: &str) -> Result<Text, ScriptError>
 }
 
 /// The string, where it is a text or empty.
-pub fn text_or_empty(alloc: Global, value: &Value) -> Result<Text, ScriptError>
+pub fn text_or_empty(alloc: Global, value: &Value<'_>) -> Result<Text, ScriptError>
     ensures { Gives result (text_or_empty_of (view value.now)) }
 {
     let string = string(alloc, value)?;
@@ -67,7 +68,7 @@ pub fn text_or_empty(alloc: Global, value: &Value) -> Result<Text, ScriptError>
 }
 
 /// The truth value.
-pub fn flag(alloc: Global, value: &Value) -> Result<bool, ScriptError>
+pub fn flag(alloc: Global, value: &Value<'_>) -> Result<bool, ScriptError>
     ensures { Gives result (flag_of (view value.now)) }
 {
     match value.as_bool() {
@@ -77,7 +78,7 @@ pub fn flag(alloc: Global, value: &Value) -> Result<bool, ScriptError>
 }
 
 /// The whole number.
-pub fn number(alloc: Global, value: &Value) -> Result<u64, ScriptError>
+pub fn number(alloc: Global, value: &Value<'_>) -> Result<u64, ScriptError>
     ensures { Gives result (number_of (view value.now)) }
 {
     match value.as_u64() {
@@ -87,7 +88,7 @@ pub fn number(alloc: Global, value: &Value) -> Result<u64, ScriptError>
 }
 
 /// The whole number, from 1 to the greatest.
-pub fn count(alloc: Global, value: &Value, most: u32) -> Result<u32, ScriptError>
+pub fn count(alloc: Global, value: &Value<'_>, most: u32) -> Result<u32, ScriptError>
     ensures { Gives result (count_of most (view value.now)) }
 {
     let number = number(alloc, value)?;
@@ -100,7 +101,7 @@ pub fn count(alloc: Global, value: &Value, most: u32) -> Result<u32, ScriptError
 
 /// The kind of a word.
 #[tactic(auto, using(crate::proofs::Rows::kind_of_word))]
-pub fn kind(alloc: Global, words: &Words, value: &Value) -> Result<Kind, ScriptError>
+pub fn kind(alloc: Global, words: &Words, value: &Value<'_>) -> Result<Kind, ScriptError>
     ensures { Gives result (word_of tables.kinds (view value.now)) }
 {
     match words.kind(string(alloc, value)?) {
@@ -114,7 +115,7 @@ pub fn kind(alloc: Global, words: &Words, value: &Value) -> Result<Kind, ScriptE
 
 /// The language of a word.
 #[tactic(auto, using(crate::proofs::Rows::lang_of_word))]
-pub fn lang(alloc: Global, words: &Words, value: &Value) -> Result<Lang, ScriptError>
+pub fn lang(alloc: Global, words: &Words, value: &Value<'_>) -> Result<Lang, ScriptError>
     ensures { Gives result (word_of tables.langs (view value.now)) }
 {
     match words.lang(string(alloc, value)?) {
@@ -127,7 +128,7 @@ pub fn lang(alloc: Global, words: &Words, value: &Value) -> Result<Lang, ScriptE
 }
 
 /// The number of the bit of a word.
-fn bit(alloc: Global, words: &Words, sort: WordSort, value: &Value) -> Result<u32, ScriptError>
+fn bit(alloc: Global, words: &Words, sort: WordSort, value: &Value<'_>) -> Result<u32, ScriptError>
     ensures bit { Gives result (bit_of sort (view value.now)) }
     ensures range { IfOk result (λ bit. bit < width sort) }
 {
@@ -140,7 +141,7 @@ fn bit(alloc: Global, words: &Words, sort: WordSort, value: &Value) -> Result<u3
 
 /// The number of the bit of a role or a relation.
 #[tactic(auto, using(crate::proofs::Rows::role_below))]
-fn role(alloc: Global, words: &Words, value: &Value) -> Result<u32, ScriptError>
+fn role(alloc: Global, words: &Words, value: &Value<'_>) -> Result<u32, ScriptError>
     ensures bit { Gives result (role_of (view value.now)) }
     ensures range { IfOk result (λ bit. bit < 19) }
 {
@@ -151,7 +152,7 @@ fn role(alloc: Global, words: &Words, value: &Value) -> Result<u32, ScriptError>
 }
 
 /// The number of the bit of a relation.
-fn relation(alloc: Global, words: &Words, value: &Value) -> Result<u32, ScriptError>
+fn relation(alloc: Global, words: &Words, value: &Value<'_>) -> Result<u32, ScriptError>
     ensures bit { Gives result (relation_of (view value.now)) }
     ensures range { IfOk result (λ bit. bit < 19) }
 {
@@ -161,7 +162,7 @@ fn relation(alloc: Global, words: &Words, value: &Value) -> Result<u32, ScriptEr
 
 /// The number of the bit of a property.
 #[tactic(auto, using(crate::proofs::Rows::prop_below))]
-fn prop(alloc: Global, words: &Words, value: &Value) -> Result<u32, ScriptError>
+fn prop(alloc: Global, words: &Words, value: &Value<'_>) -> Result<u32, ScriptError>
     ensures bit { Gives result (prop_of (view value.now)) }
     ensures range { IfOk result (λ bit. bit < 9) }
 {
@@ -185,7 +186,7 @@ fn bits_from(
     alloc: Global,
     words: &Words,
     sort: WordSort,
-    items: &[Value],
+    items: &[Value<'_>],
 ) -> Result<u32, ScriptError>
     ensures bits { Gives result (bits_from (bit_of sort) (items_view items.now)) }
     ensures range { IfOk result (λ mask. mask < 2 ^ width sort) }
@@ -205,7 +206,7 @@ fn bit_at(
     words: &Words,
     sort: WordSort,
     index: usize,
-    item: &Value,
+    item: &Value<'_>,
 ) -> Result<u32, ScriptError>
     ensures bit { Gives result (within (decimal index) (bit_of sort (view item.now))) }
     ensures range { IfOk result (λ bit. bit < width sort) }
@@ -218,11 +219,29 @@ pub fn roles(
     alloc: Global,
     words: &Words,
     sort: WordSort,
-    value: &Value,
+    value: &Value<'_>,
 ) -> Result<Roles, ScriptError>
     ensures { Gives result (some_bits_of (bit_of sort) (view value.now)) }
 {
-    let items = items(alloc, value, What::Words, MAX_WORDS)?;
+    match value.as_array() {
+        Some(items) => few_roles(alloc, words, sort, items),
+        None => bad_value(alloc),
+    }
+}
+
+/// The roles, where the list has at most 64 words.
+#[tactic(auto, using(crate::proofs::Items::items_count_items_view))]
+fn few_roles(
+    alloc: Global,
+    words: &Words,
+    sort: WordSort,
+    items: &[Value<'_>],
+) -> Result<Roles, ScriptError>
+    ensures { Gives result (few_of What.Words 64 (some_bits_from (bit_of sort)) (items_view items.now)) }
+{
+    if items.len() > MAX_WORDS {
+        return Err(ScriptError::Refused(ScriptRefusal::TooMany { what: What::Words }));
+    }
     roles_from(alloc, words, sort, items)
 }
 
@@ -231,7 +250,7 @@ fn roles_from(
     alloc: Global,
     words: &Words,
     sort: WordSort,
-    items: &[Value],
+    items: &[Value<'_>],
 ) -> Result<Roles, ScriptError>
     ensures { Gives result (some_bits_from (bit_of sort) (items_view items.now)) }
 {
@@ -245,10 +264,29 @@ fn roles_from(
 }
 
 /// The properties of a list of words.
-pub fn props(alloc: Global, words: &Words, value: &Value) -> Result<Props, ScriptError>
+pub fn props(alloc: Global, words: &Words, value: &Value<'_>) -> Result<Props, ScriptError>
     ensures { Gives result (bits_of prop_of (view value.now)) }
 {
-    let items = items(alloc, value, What::Words, MAX_WORDS)?;
+    match value.as_array() {
+        Some(items) => few_props(alloc, words, items),
+        None => bad_value(alloc),
+    }
+}
+
+/// The properties, where the list has at most 64 words.
+#[tactic(auto, using(crate::proofs::Items::items_count_items_view))]
+fn few_props(alloc: Global, words: &Words, items: &[Value<'_>]) -> Result<Props, ScriptError>
+    ensures { Gives result (few_of What.Words 64 (bits_from prop_of) (items_view items.now)) }
+{
+    if items.len() > MAX_WORDS {
+        return Err(ScriptError::Refused(ScriptRefusal::TooMany { what: What::Words }));
+    }
+    props_from(alloc, words, items)
+}
+
+fn props_from(alloc: Global, words: &Words, items: &[Value<'_>]) -> Result<Props, ScriptError>
+    ensures { Gives result (bits_from prop_of (items_view items.now)) }
+{
     match Props::new(bits_from(alloc, words, WordSort::Prop, items)?) {
         Some(props) => Ok(props),
         None => unreachable!(),
@@ -256,7 +294,7 @@ pub fn props(alloc: Global, words: &Words, value: &Value) -> Result<Props, Scrip
 }
 
 /// The USR of a symbol beside those before it.
-pub fn new_usr(alloc: Global, table: &SymbolTable, value: &Value) -> Result<Text, ScriptError>
+pub fn new_usr(alloc: Global, table: &SymbolTable, value: &Value<'_>) -> Result<Text, ScriptError>
     ensures { Gives result (new_usr_of (is_usr_of table.now) (view value.now)) }
 {
     let usr = text(alloc, value)?;
@@ -265,7 +303,7 @@ pub fn new_usr(alloc: Global, table: &SymbolTable, value: &Value) -> Result<Text
 }
 
 /// The USR of one of the symbols.
-pub fn known_usr(alloc: Global, table: &SymbolTable, value: &Value) -> Result<Text, ScriptError>
+pub fn known_usr(alloc: Global, table: &SymbolTable, value: &Value<'_>) -> Result<Text, ScriptError>
     ensures { Gives result (known_usr_of (is_usr_of table.now) (view value.now)) }
 {
     let usr = text(alloc, value)?;

@@ -1,4 +1,5 @@
 mod Basics
+mod FirstFaults
 mod Marks
 mod PlansBack
 mod StepsBack

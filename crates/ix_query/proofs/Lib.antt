@@ -1,3 +1,4 @@
+pub mod Begun
 pub mod Grown
 pub mod Lifted
 pub mod Passed

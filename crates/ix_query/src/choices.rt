@@ -46,7 +46,11 @@ impl Choice for WithRole {
         occurrence: &Occurrence,
         symbol: &Symbol,
     ) -> bool {
-        symbol.usr == *key && occurrence.roles.bits() & mask != 0
+        // Roles tell most occurrences apart, at less cost than texts.
+        if occurrence.roles.bits() & mask == 0 {
+            return false;
+        }
+        symbol.usr == *key
     }
 }
 

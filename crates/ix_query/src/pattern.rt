@@ -1,5 +1,7 @@
 //! Which names match a pattern, with no copy of a name where letters count as they are.
-ghost use Rattle.std.specs.Prelude.{◌≡◌, [], map, IfOk, OnOk};
+ghost use Rattle.std.specs.Prelude.{◌≡◌, ◌<◌, [], map, length, drop, nat_eq, slice_get, Some, IfOk, OnOk};
+ghost use Rattle.std.specs.Option.{option_copied};
+ghost use Rattle.std.specs.List.{starts_with};
 ghost use Rattle.ix_answers.specs.Pattern.{folded_byte, folded, stands_in, stands_at};
 
 use ix_types::Memory;
@@ -42,10 +44,18 @@ fn fold_into(buffer: &mut Vec<u8>, text: &[u8]) -> Result<(), Memory>
     ensures { OnOk result (buffer.new.items ≡ map folded_byte text.now) }
 {
     buffer.clear();
-    for byte in text {
-        buffer.push(folded_byte(*byte))?;
-    }
+    buffer.extend_from_slice(text)?;
+    fold_bytes(buffer);
     Ok(())
+}
+
+/// Folds each byte where it stands.
+fn fold_bytes(bytes: &mut [u8])
+    ensures { bytes.new ≡ map folded_byte bytes.old }
+{
+    for byte in bytes.iter_mut() {
+        *byte = folded_byte(*byte);
+    }
 }
 
 /// A to Z as a to z, every other byte as it is.
@@ -80,11 +90,33 @@ fn stands_at(start: bool, end: bool, text: &[u8], name: &[u8]) -> bool
 fn stands_in(text: &[u8], name: &[u8]) -> bool
     ensures { result ≡ stands_in text.now name.now }
 {
+    match text.first() {
+        Some(first) => stands_behind(*first, text, name),
+        None => true,
+    }
+}
+
+/// The same for a text with this first byte.
+fn stands_behind(first: u8, text: &[u8], name: &[u8]) -> bool
+    requires { slice_get text.now 0 ≡ Some first }
+    ensures { result ≡ stands_in text.now name.now }
+{
     for at in 0..name.len() {
-        let rest = &name[at..];
-        if rest.starts_with(text) {
+        if begins_at(first, text, name, at) {
             return true;
         }
     }
-    name[name.len()..].starts_with(text)
+    false
+}
+
+/// Whether a text with this first byte stands in the name at a place. Most places are told by one byte.
+fn begins_at(first: u8, text: &[u8], name: &[u8], at: usize) -> bool
+    requires first { slice_get text.now 0 ≡ Some first }
+    requires within { at < length name.now }
+    ensures { result ≡ starts_with nat_eq (drop at name.now) text.now }
+{
+    if name[at] != first {
+        return false;
+    }
+    name[at..].starts_with(text)
 }

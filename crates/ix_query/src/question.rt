@@ -53,11 +53,12 @@ impl Question {
         })
     }
 
-    /// The least needed record that isn't loaded; None exactly where none is lacking. What was passed must still be loaded. Takes no memory, and
-    /// looks no record up again that it has passed.
+    /// The least needed record that isn't loaded; None exactly where none is lacking. What was passed must still be loaded. The place moves to what
+    /// is answered, and from there the next call goes on. Takes no memory, and looks no record up again that it has passed.
     pub fn next_need(&mut self, bodies: &Bodies) -> Option<FileName>
         requires { IsOpenOver self.old bodies.now }
         ensures next { result ≡ lacking_of (loaded_names bodies.now) self.old.needed }
+        ensures place { slice_get self.new.needed self.new.place ≡ result }
         ensures needed { self.new.needed ≡ self.old.needed }
         ensures open { IsOpenOver self.new bodies.now }
         ensures forward { self.old.place ≤ self.new.place }

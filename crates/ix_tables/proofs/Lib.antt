@@ -1,3 +1,4 @@
 pub mod Shared
 pub mod Stepped
 pub mod Found
+pub mod Looked

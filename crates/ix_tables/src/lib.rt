@@ -9,6 +9,8 @@ mod moves;
 mod outlines;
 mod records;
 mod tables;
+#[cfg(test)]
+mod tests;
 mod units;
 
 pub use outlines::Outlines;

@@ -1,16 +1,21 @@
 //! The tables of a version.
 ghost use Rattle.std.specs.Prelude.{◌≡◌, [], option_copied, option_map, IfOk};
+ghost use Rattle.ix_types.specs.Row.{text_cmp};
 ghost use Rattle.ix_model.specs.Units.{Units};
 ghost use Rattle.ix_answers.specs.Batches.{unit_of};
 ghost use Rattle.ix_answers.specs.Lookups.{providers, related, named, coded, in_path, paths, listing, name_at, unit_at};
+ghost use Rattle.ix_lookups.specs.Found.{found_in};
+ghost use Rattle.ix_pages.specs.Pairs.{look_up};
 ghost use Rattle.ix_outline.specs.Following.{Follows, known_after};
 ghost use Rattle.ix_outline.specs.Known.{nothing_known, AreTables, bare};
 ghost use Rattle.std.specs.Map.Iter.{deref_pair};
+ghost use Rattle.ix_tables.specs.Looking.{found_of};
 
 use crate::moves::{outlines_moved, touched, units_moved};
 use crate::outlines::Outlines;
 use crate::records::RecordTables;
 use crate::units::UnitTables;
+use ix_lookups::Lookups;
 use ix_outline::laws;
 use ix_types::{FileName, Memory, Text};
 use ix_unit::{Batch, UnitValue};
@@ -185,9 +190,73 @@ impl Tables {
         ensures { (units : Units) → AreTables units self.now → option_copied result ≡ unit_of name.now units }
     {
         laws::what_is_given_is_what_look_ups_find();
+        self.unit_named(name)
+    }
+
+    /// What stands under a name.
+    fn unit_named(&self, name: &FileName) -> Option<&UnitValue>
+        ensures { option_copied result ≡ look_up text_cmp self.now.units name.now }
+    {
         match self.units.map().get(name) {
             None => None,
             Some(unit) => Some(&**unit),
         }
+    }
+
+    /// What these tables' look-ups find is what is found from scratch in the units that they are of. Does nothing.
+    pub fn find_what_is_there(&self)
+        ensures { (units : Units) → AreTables units self.now → found_of self.now ≡ found_in units }
+    {
+        laws::what_is_given_is_what_look_ups_find();
+        let outlines = self.records.map();
+        let _rising = outlines.len();
+    }
+}
+
+/// Each look-up finds what the outlines and the units give under its key.
+impl Lookups for Tables {
+    ghost found = { found_of };
+
+    fn providers(&self, usr: &Text) -> &[FileName] {
+        self.records.providers(usr)
+    }
+
+    fn related(&self, usr: &Text) -> &[FileName] {
+        self.records.related(usr)
+    }
+
+    fn named(&self, name: &Text) -> &[Text] {
+        self.records.named(name)
+    }
+
+    fn coded(&self, codegen: &Text) -> &[Text] {
+        self.records.coded(codegen)
+    }
+
+    fn name_at(&self, place: u64) -> Option<&Text> {
+        self.records.name_at(place)
+    }
+
+    fn in_path(&self, path: &Text) -> &[FileName] {
+        self.units.in_path(path)
+    }
+
+    fn paths(&self, name: &FileName) -> &[Text] {
+        self.units.paths(name)
+    }
+
+    fn listing(&self, path: &Text) -> &[FileName] {
+        self.units.listing(path)
+    }
+
+    fn unit_at(&self, place: u64) -> Option<(&FileName, &UnitValue)> {
+        match self.units.map().at(place) {
+            None => None,
+            Some((name, unit)) => Some((name, &**unit)),
+        }
+    }
+
+    fn unit(&self, name: &FileName) -> Option<&UnitValue> {
+        self.unit_named(name)
     }
 }

@@ -1,14 +1,15 @@
-use Rattle.std.proofs.Common.{rules, ◌≡◌, ◌≢◌, ◌∙◌, ◌<◌, length, map, sym, ap, subst, IfOk, arith}
+use Rattle.std.proofs.Common.{rules, Less, ◌≡◌, ◌≢◌, ◌∙◌, ◌<◌, length, map, sym, ap, subst, IfOk, arith}
 use Rattle.std.proofs.lemmas.Bool.{eqb-true, eqb-false}
 use Rattle.std.proofs.lemmas.List.{length-map}
 use Rattle.ix_pages.specs.Pairs.{IsRising}
 use Rattle.ix_pages.specs.Paging.{pairs_of}
-use Rattle.ix_pages.specs.Changes.{changed, cut_often, pages_changed}
+use Rattle.std.specs.List.{AllByRecursion}
+use Rattle.ix_pages.specs.Changes.{key_of_change, changed, cut_often, pages_changed}
 use Rattle.ix_pages.specs.Tree.{pair_of, pages_of, pages_in, IsTree, IsRestOf}
 use Rattle.ix_pages.specs.Edits.{change_of}
 use Rattle.ix_pages.proofs.Trees.{rising_front, rising_back, left_smaller, right_smaller}
 use Rattle.ix_pages.proofs.Changing.{one_page_changed}
-use Rattle.ix_pages.proofs.Edits.{nothing_edited, edited_in_two}
+use Rattle.ix_pages.proofs.Edits.{nothing_edited, edited_in_two, first_stays}
 use Rattle.ix_pages.proofs.bulk.+edited.Goals as goal
 
 pub returns-then-is_empty : goal.returns-then-is_empty
@@ -43,8 +44,27 @@ returns-in-Page g t c =
     ∙ ap (λ tree. pages_changed g.K.Ord.cmp c.args.most (pages_of tree) changes) (sym is) in
     subst (λ pages. IfOk c.edited_pairs.result (λ rest. IsRestOf rest pages)) e c.edited_pairs.ensures
 
-pub returns-in_ok-right-in-Fork : goal.returns-in_ok-right-in-Fork
-returns-in_ok-right-in-Fork g t c =
+pub both_from-requires-clause-least : goal.both_from-requires-clause-least
+both_from-requires-clause-least g t c =
+    let is = sym c.deref-whole.ensures ∙ c.in-Fork.is in
+    let whole = subst IsTree is c.requires.tree in
+    let rising : IsRising g.K.Ord.cmp (pairs_of (pages_of c.in-Fork.right.value)) = rising_back g.K.Ord.cmp (pages_of c.args.tree.now.value) (pages_of c.in-Fork.left.value) (pages_of c.in-Fork.right.value) (ap pages_of is) c.requires.pairs in
+    first_stays g.met.K.Ord.total c.args.most (pair_of c.in-Fork.least) (pages_of c.in-Fork.right.value) (pages_in c.in_ok-right-in-Fork.right) (map change_of c.split_edits.result.behind.now) whole.2 rising c.split_edits.ensures.rising_behind
+    (subst (λ e. AllByRecursion (λ change. g.K.Ord.cmp e.key (key_of_change change) ≡ Less) (map change_of c.split_edits.result.behind.now)) c.deref-in-Fork-2.ensures (c.are_greater.ensures c.if-are_greater.true)) c.in_ok-right-in-Fork.ensures.is
+
+pub returns-then-are_greater : goal.returns-then-are_greater
+returns-then-are_greater g t c =
+    let is = sym c.deref-whole.ensures ∙ c.in-Fork.is in
+    let whole = subst IsTree is c.requires.tree in
+    let key : c.deref-in-Fork.result.now ≡ c.in-Fork.least.value = c.deref-in-Fork.ensures in
+    let e = edited_in_two g.met.K.Ord.total c.args.most (pair_of c.in-Fork.least) c.in-Fork.left.value (pages_of c.in-Fork.right.value) (pages_of c.args.tree.now.value) (pages_in c.in_ok-left-in-Fork.left) (pages_in c.in_ok-right-in-Fork.right)
+    (map change_of c.args.edits.now) (map change_of c.split_edits.result.before.now) (map change_of c.split_edits.result.behind.now) c.requires.pairs (ap pages_of is) whole.2
+    (rw key at c.split_edits.ensures.before) (rw key at c.split_edits.ensures.behind)
+    c.in_ok-left-in-Fork.ensures.is c.in_ok-right-in-Fork.ensures.is in
+    subst (λ pages. IfOk c.both_from.result (λ rest. IsRestOf rest pages)) e c.both_from.ensures
+
+pub returns-else-are_greater : goal.returns-else-are_greater
+returns-else-are_greater g t c =
     let is = sym c.deref-whole.ensures ∙ c.in-Fork.is in
     let whole = subst IsTree is c.requires.tree in
     let key : c.deref-in-Fork.result.now ≡ c.in-Fork.least.value = c.deref-in-Fork.ensures in

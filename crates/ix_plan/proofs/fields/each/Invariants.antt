@@ -1,5 +1,5 @@
 use Rattle.std.proofs.Common.{◌≡◌, [], drop}
-use Rattle.serde_json.specs.View.{items_view}
+use Rattle.ix_plan.specs.View.{items_view}
 use Rattle.ix_plan.specs.Json.{in_order, one_more}
 use Rattle.ix_plan.proofs.fields.each.Given as goal
 

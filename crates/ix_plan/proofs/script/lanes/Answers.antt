@@ -1,4 +1,4 @@
-use Rattle.serde_json.specs.View.{view}
+use Rattle.ix_plan.specs.View.{view}
 use Rattle.ix_plan.proofs.Lengths.{few_lanes}
 use Rattle.ix_plan.proofs.script.lanes.Goals as goal
 

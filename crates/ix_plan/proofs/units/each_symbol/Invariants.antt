@@ -1,5 +1,5 @@
 use Rattle.std.proofs.Common.{◌≡◌, [], drop}
-use Rattle.serde_json.specs.View.{items_view}
+use Rattle.ix_plan.specs.View.{items_view}
 use Rattle.ix_plan.specs.Json.{in_order, one_more}
 use Rattle.ix_plan.specs.Plans.{symbol_of, is_usr_of}
 use Rattle.ix_plan.proofs.units.each_symbol.Given as goal

@@ -1,5 +1,5 @@
 use Rattle.std.proofs.Common.{ap, sym, ◌∙◌, ◌+◌, drop}
-use Rattle.serde_json.specs.View.{items_view}
+use Rattle.ix_plan.specs.View.{items_view}
 use Rattle.ix_plan.specs.Json.{in_order}
 use Rattle.ix_plan.specs.Values.{bit_of, with_bit}
 use Rattle.ix_plan.proofs.Items.{next_item}

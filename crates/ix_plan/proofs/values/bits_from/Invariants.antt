@@ -1,5 +1,5 @@
 use Rattle.std.proofs.Common.{◌≡◌, ◌<◌, ◌^◌, drop}
-use Rattle.serde_json.specs.View.{items_view}
+use Rattle.ix_plan.specs.View.{items_view}
 use Rattle.ix_plan.specs.Json.{in_order}
 use Rattle.ix_plan.specs.Values.{bit_of, bits_from, with_bit, width}
 use Rattle.ix_plan.proofs.values.bits_from.Given as goal

@@ -1,9 +1,6 @@
-use Rattle.std.proofs.Common.{◌≡◌, ◌-◌, false, length, take, drop, nat_eq, arith}
-use Rattle.std.specs.List.{starts_with}
-use Rattle.ix_answers.proofs.Texts.{one_on}
+use Rattle.std.proofs.Common.{sym}
+use Rattle.ix_query.proofs.Begun.{empty_stands}
 use Rattle.ix_query.proofs.pattern.stands_in.Goals as goal
 
-pub loop-at-preserved : goal.loop-at-preserved
-loop-at-preserved c =
-    let none : starts_with nat_eq (take (length c.args.name.now - c.loop-at.at) (drop c.loop-at.at c.args.name.now)) c.args.text.now ≡ false = cc in
-    one_on c.args.text.now c.args.name.now c.loop-at.at (omega arith) none c.loop-at.invariant
+pub returns-in-None : goal.returns-in-None
+returns-in-None c = empty_stands c.args.text.now c.args.name.now (sym c.in-None.ensures.value)

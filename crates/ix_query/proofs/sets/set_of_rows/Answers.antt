@@ -1,4 +1,4 @@
-use Rattle.std.proofs.Common.{ℕ, List}
+use Rattle.std.proofs.Common.{List}
 use Rattle.ix_types.specs.Row.{occurrence_cmp}
 use Rattle.ix_model.specs.SortedSet.{sorted_set, IsSortedSetOf}
 use Rattle.ix_types.specs.declared.row.OccRow.{OccRow}

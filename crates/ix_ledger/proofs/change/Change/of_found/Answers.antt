@@ -1,22 +1,12 @@
-use Rattle.std.proofs.Common.{ℕ, ◌+◌, ap, ◌∙◌, arith}
-use Rattle.std.specs.BTreeMap.{insert_entry}
-use Rattle.ix_types.specs.Row.{text_cmp}
-use Rattle.ix_unit.specs.declared.batch.UnitPut.{UnitPut}
-use Rattle.ix_ledger.specs.Effects.{Changed}
-use Rattle.ix_ledger.specs.Kept.{Named, unit_at}
-use Rattle.ix_ledger.proofs.Maps.{found_new, found_next}
+use Rattle.std.proofs.Common.{sym, ap, ◌∙◌}
+use Rattle.ix_model.specs.Units.{Units}
+use Rattle.ix_guard.specs.Listing.{need_list_of}
+use Rattle.ix_ledger.specs.Kept.{Named, as_units}
+use Rattle.ix_ledger.proofs.NeedLists.{puts_same}
 use Rattle.ix_ledger.proofs.change.Change.of_found.Goals as goal
 
-pub and_found-requires : goal.and_found-requires
-and_found-requires c =
-    ap (unit_at c.put-item.result.name) c.loop-put.invariant.units
-    ∙ found_new (λ (put : UnitPut). put.name) (λ (put : UnitPut). put.unit.value) c.args.found.now c.loop-put.put-index c.put-item.result (omega arith) c.put-item.is c.requires
-
-pub loop-put-preserved : goal.loop-put-preserved
-loop-put-preserved c = record {
-  units =
-      ap (λ (change : Changed). change.units) c.in_ok-next.ensures
-      ∙ (ap (λ (us : Named). insert_entry text_cmp us c.put-item.result.name c.put-item.result.unit.value) c.loop-put.invariant.units
-      ∙ found_next (λ (put : UnitPut). put.name) (λ (put : UnitPut). put.unit.value) c.args.found.now c.loop-put.put-index c.put-item.result (omega arith) c.put-item.is c.requires);
-  published = ap (λ (change : Changed). change.published) c.in_ok-next.ensures ∙ ap (λ (n : ℕ). n + 1) c.loop-put.invariant.published;
-}
+pub invariant_of-result : goal.invariant_of-result
+invariant_of-result c =
+    c.in_ok-needs.ensures
+    ∙ (ap need_list_of (puts_same c.args.found.now)
+    ∙ ap (λ (us : Named). need_list_of (as_units us)) (sym c.in_ok-units.ensures))

@@ -1,4 +1,4 @@
-use Rattle.serde_json.specs.View.{view}
+use Rattle.ix_plan.specs.View.{view}
 use Rattle.ix_plan.proofs.StepsKept.{read_is}
 use Rattle.ix_plan.proofs.plan.Script.read.Goals as goal
 

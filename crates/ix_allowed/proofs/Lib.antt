@@ -1,0 +1,9 @@
+mod Steps
+mod Progresses
+mod Runs
+mod Needed
+mod May
+mod Tasks
+mod Led
+mod Removed
+mod Moments

@@ -1,0 +1,11 @@
+use Rattle.std.proofs.Common.{refl}
+use Rattle.ix_machine.specs.Given as given
+use Rattle.ix_lanes.specs.Calls as turn
+use Rattle.ix_calls.proofs.Beside.{ended_calls}
+use Rattle.ix_calls.proofs.builds.put.Goals as goal
+
+pub returns-clause-call : goal.returns-clause-call
+returns-clause-call g c s p stands at =
+    let old = c.args.library.now in
+    let new = c.put.new.library in
+    ended_calls g.N.Naming.name_of s c.args.number p old.ledger.events new.ledger.events (g.D.Dir.state old.dir) new.ledger.kept new.shelf new.known (g.D.Dir.state new.dir) (turn.Put c.args.body.now) (given.Put c.args.body.now) at refl c.put.result c.ended.result c.ended.ensures.is (c.put.ensures.step s stands) (c.put.ensures.event)

@@ -1,0 +1,31 @@
+use Rattle.std.proofs.Common.{refl, sym, subst, ap, ◌∙◌, Some}
+use Rattle.ix_dir.specs.State.{counted_where}
+use Rattle.ix_machine.specs.declared.event.Outcome.{Outcome}
+use Rattle.ix_machine.specs.declared.event.Call.{Call}
+use Rattle.ix_library.specs.Endings.{with_event}
+use Rattle.ix_import.specs.Importing.{next_of}
+use Rattle.ix_lanes.specs.Calls as turn
+use Rattle.ix_lanes.specs.Calls.{load_or_install}
+use Rattle.ix_polls.specs.Polling.{import_shows}
+use Rattle.ix_seats.specs.declared.made.Made.{Made}
+use Rattle.ix_turns.specs.Ended.{says_failed}
+use Rattle.ix_calls.specs.Turns.{IsCall}
+use Rattle.ix_calls.proofs.PollCalls.{import_never, noted_by, polled_call, shows}
+use Rattle.ix_calls.proofs.polls.import.Goals as goal
+
+pub returns-clause-call : goal.returns-clause-call
+returns-clause-call g c s p wanted stands turned at =
+    let old = c.args.library.now in
+    let new = c.import.new.library in
+    let polled = c.in_ok-polled.polled in
+    subst (λ (m : Made). IsCall g.N.Naming.name_of s c.args.number p old.ledger.events (g.D.Dir.state old.dir) m new.ledger.events new.ledger.kept new.shelf new.known (g.D.Dir.state new.dir) c.args.importer.now c.import.new.importer) (sym c.made_of.ensures.is)
+    (polled_call c.the_latest_publication_stands.ensures.rises g.N.Naming.name_of s c.args.number p old.ledger.events new.ledger.events (g.D.Dir.state old.dir) new.ledger.kept new.shelf new.known (g.D.Dir.state new.dir) c.args.importer.now c.import.new.importer
+    turn.Import turned refl (load_or_install (next_of c.args.importer.now)) polled.outcome polled.version (c.in_ok-polled.ensures.step s p stands at.imports at.way turned) (c.in_ok-polled.ensures.event ∙ ap (λ (called : Call). with_event old.ledger.events c.args.number called (Some polled.outcome)) (shows g.N.Naming.name_of s c.args.number (next_of c.args.importer.now))) (λ leaves. import_never (next_of c.args.importer.now) leaves))
+
+pub returns-clause-event : goal.returns-clause-event
+returns-clause-event g c =
+    noted_by c.args.library.now.ledger.events c.import.new.library.ledger.events c.args.number (import_shows (next_of c.args.importer.now)) c.in_ok-polled.polled.outcome c.made_of.result c.made_of.ensures.outcome c.in_ok-polled.ensures.event
+
+pub returns-clause-cause : goal.returns-clause-cause
+returns-clause-cause g c =
+    c.in_ok-polled.ensures.cause ∙ ap (λ (how : Outcome). counted_where (says_failed how) (g.D.Dir.state c.args.library.now.dir).faults) (sym c.made_of.ensures.outcome)

@@ -1,0 +1,10 @@
+mod Disk
+mod Entries
+mod Leases
+mod Memory
+mod Moments
+mod Opened
+mod Publishing
+mod Playing
+mod Stamped
+mod Told

@@ -1,0 +1,6 @@
+mod Grown
+mod Marked
+mod Opened
+mod Passed
+mod Among
+mod Sorted

@@ -1,0 +1,8 @@
+mod Orders
+mod Sorting
+mod Index
+mod Sizes
+mod Roles
+mod Valid
+mod Written
+mod Planned

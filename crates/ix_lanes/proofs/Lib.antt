@@ -1,0 +1,6 @@
+mod Lists
+mod Names
+mod Counting
+mod Held
+mod Asked
+mod Ready

@@ -1,0 +1,5 @@
+pub mod Ended
+pub mod Named
+pub mod Edges
+pub mod Further
+pub mod Paths

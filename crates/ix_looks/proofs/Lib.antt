@@ -1,0 +1,4 @@
+pub mod Brought
+pub mod Led
+pub mod Members
+pub mod Needed

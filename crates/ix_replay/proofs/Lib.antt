@@ -1,0 +1,11 @@
+mod Answering
+mod Beginning
+mod Digests
+mod Ending
+mod Lists
+mod Opened
+mod Seating
+mod Places
+mod Settling
+mod Stepping
+mod Can

@@ -1,0 +1,7 @@
+mod Names
+mod Turns
+mod Answering
+mod Keeping
+mod Telling
+mod Marks
+mod Left

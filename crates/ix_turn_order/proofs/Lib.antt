@@ -1,0 +1,5 @@
+mod Calls
+mod Marks
+mod Turns
+mod Loops
+mod Sums

@@ -1,0 +1,14 @@
+use Rattle.std.proofs.Common.{◌<◌, ℕ, List, [], length}
+use Rattle.ix_lanes.specs.Tasks.{Task}
+use Rattle.ix_replays.specs.Run.{Run}
+use Rattle.ix_turn_order.specs.Counting.{AreCounted}
+use Rattle.ix_turn_order.specs.Order.{IsReplaying}
+use Rattle.ix_turn_order.proofs.replaying.run_lane.Given as goal
+
+abbrev pub invariant-loop-event : goal.invariant-loop-event
+invariant-loop-event g l = record {
+  can : g.S.Stepper.can_step l.stepper;
+  turns : (tasks : List (List Task)) (start : Run) (whole : List ℕ) → l.lane < length tasks → IsReplaying g.S.Stepper.name_of tasks (g.S.Stepper.stands l.initial.stepper tasks) start whole [] l.lane
+      → IsReplaying g.S.Stepper.name_of tasks (g.S.Stepper.stands l.stepper tasks) start whole [] l.lane;
+  counted : AreCounted (g.S.Stepper.events l.initial.stepper) (g.S.Stepper.faults l.initial.stepper) (g.S.Stepper.events l.stepper) (g.S.Stepper.faults l.stepper);
+}

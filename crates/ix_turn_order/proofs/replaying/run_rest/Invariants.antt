@@ -1,0 +1,14 @@
+use Rattle.std.proofs.Common.{◌≡◌, ℕ, List, [], length}
+use Rattle.ix_lanes.specs.Tasks.{Task}
+use Rattle.ix_replays.specs.Run.{Run}
+use Rattle.ix_turn_order.specs.Counting.{AreCounted}
+use Rattle.ix_turn_order.specs.Order.{IsReplaying}
+use Rattle.ix_turn_order.proofs.replaying.run_rest.Given as goal
+
+abbrev pub invariant-loop-lane : goal.invariant-loop-lane
+invariant-loop-lane g l = record {
+  can : g.S.Stepper.can_step l.stepper;
+  turns : (tasks : List (List Task)) (start : Run) (whole : List ℕ) → l.lanes ≡ length tasks → IsReplaying g.S.Stepper.name_of tasks (g.S.Stepper.stands l.initial.stepper tasks) start whole [] 0
+      → IsReplaying g.S.Stepper.name_of tasks (g.S.Stepper.stands l.stepper tasks) start whole [] l.lane;
+  counted : AreCounted (g.S.Stepper.events l.initial.stepper) (g.S.Stepper.faults l.initial.stepper) (g.S.Stepper.events l.stepper) (g.S.Stepper.faults l.stepper);
+}

@@ -1,0 +1,34 @@
+//! Lanes that are stepped, one call at a time.
+ghost use Rattle.std.specs.Prelude.{◌≡◌, ℕ, List, IfOk, OnOk};
+ghost use Rattle.ix_lanes.specs.Tasks.{Task};
+ghost use Rattle.ix_machine.specs.declared.event.Event.{Event};
+ghost use Rattle.ix_replays.specs.Run.{Run};
+ghost use Rattle.ix_turn_order.specs.Counting.{AreCounted};
+ghost use Rattle.ix_turn_order.specs.Order.{GoesOn};
+
+use ix_types::Memory;
+
+/// Lanes that are stepped, one call at a time. It stands for a run of these lanes, and counts what fails.
+pub trait Stepper {
+    /// The names of units by their output paths.
+    ghost name_of: { List ℕ → List ℕ };
+
+    /// Whether it stands for this run of these lanes.
+    ghost stands: { Self → List (List Task) → Run → Type 0 };
+
+    /// What it needs for a step, and has after each one. Memory may be wanting for good.
+    ghost can_step: { Self → Type 0 };
+
+    /// The events so far.
+    ghost events: { Self → List Event };
+
+    /// How often the directory failed.
+    ghost faults: { Self → ℕ };
+
+    /// Makes the lane's next call. Answers false exactly where it has none left.
+    fn step(&mut self, lane: u32) -> Result<bool, Memory>
+        requires { can_step self.old }
+        ensures can { OnOk result (can_step self.new) }
+        ensures step { (lanes : List (List Task)) (run : Run) → stands self.old lanes run → IfOk result (λ made. (next : Run) × GoesOn name_of lanes run lane made next × stands self.new lanes next) }
+        ensures counted { IfOk result (λ made. AreCounted (events self.old) (faults self.old) (events self.new) (faults self.new)) };
+}

@@ -1,0 +1,9 @@
+//! Queries of all eighteen forms over a version.
+#![tactic(auto)]
+
+mod form;
+#[cfg(test)]
+mod tests;
+mod versions;
+
+pub use versions::{answer, next_need};
