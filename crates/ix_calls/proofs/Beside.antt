@@ -151,6 +151,7 @@ module _ (name_of : List ℕ → List ℕ) (s : State) (lane : ℕ) (p : Progres
     stands = takes.stands;
     adds = takes.adds;
     leaves = takes.leaves;
+    waits = takes.waits;
   }
 
   ended_made : (t : Turn) (g : Given) → next_turn p ≡ Some t → ended_given t ≡ Some g → (how : Outcome) → WasTaken g how → events ≡ earlier ++ event_of lane (call_of name_of s lane g) (Ended how) ∷ [] → WasMade (Ended how)

@@ -1,5 +1,5 @@
 //! The turns of a build, each with its test.
-ghost use Rattle.std.specs.Prelude.{◌≡◌, ℕ, List, Some, IfOk, OnErr, None};
+ghost use Rattle.std.specs.Prelude.{◌≡◌, ℕ, List, true, Some, IfOk, OnErr, None};
 ghost use Rattle.ix_dir.specs.State.{counted_where};
 ghost use Rattle.ix_record.specs.Whole.{IsWhole};
 ghost use Rattle.ix_unit.specs.Value.{IsValidUnit};
@@ -8,7 +8,8 @@ ghost use Rattle.ix_lanes.specs.Calls as turn;
 ghost use Rattle.ix_lanes.specs.Calls.{next_turn};
 ghost use Rattle.ix_lanes.specs.Progress.{Progress};
 ghost use Rattle.ix_library.specs.StandsFor.{HasSlots, StandsFor};
-ghost use Rattle.ix_calls.specs.Calling.{IsMadeBeside, IsNoted, turn_failed};
+ghost use Rattle.ix_turns.specs.Ended.{is_missed};
+ghost use Rattle.ix_calls.specs.Calling.{IsMadeBeside, IsNoted, outcome_of, turn_failed};
 
 use crate::endings::ended;
 use crate::tested::{has_staged, is_free, may_put, may_stage};
@@ -34,6 +35,7 @@ pub(crate) fn lease<D: Dir, N: Naming>(
     ensures again { (s : State) → StandsFor N.name_of s library.old.ledger.kept library.old.shelf library.old.known (D.state library.old.dir) → OnErr result (StandsFor N.name_of s library.new.ledger.kept library.new.shelf library.new.known (D.state library.new.dir)) }
     ensures ready { HasSlots library.old.ledger.kept (D.state library.old.dir) → HasSlots library.new.ledger.kept (D.state library.new.dir) }
     ensures told { (D.state library.old.dir).moves ≡ None → (D.state library.new.dir).moves ≡ None }
+    ensures missed { IfOk result (λ made. is_missed (outcome_of made) ≡ true → (D.state library.old.dir).moves ≡ None) }
 {
     if !is_free(library, number) {
         return Err(Memory);
@@ -55,6 +57,7 @@ pub(crate) fn put<D: Dir, N: Naming>(
     ensures again { (s : State) → StandsFor N.name_of s library.old.ledger.kept library.old.shelf library.old.known (D.state library.old.dir) → OnErr result (StandsFor N.name_of s library.new.ledger.kept library.new.shelf library.new.known (D.state library.new.dir)) }
     ensures ready { HasSlots library.old.ledger.kept (D.state library.old.dir) → HasSlots library.new.ledger.kept (D.state library.new.dir) }
     ensures told { (D.state library.old.dir).moves ≡ None → (D.state library.new.dir).moves ≡ None }
+    ensures missed { IfOk result (λ made. is_missed (outcome_of made) ≡ true → (D.state library.old.dir).moves ≡ None) }
 {
     if !may_put(library, number, body.name) {
         return Err(Memory);
@@ -76,6 +79,7 @@ pub(crate) fn stage<D: Dir, N: Naming>(
     ensures again { (s : State) → StandsFor N.name_of s library.old.ledger.kept library.old.shelf library.old.known (D.state library.old.dir) → OnErr result (StandsFor N.name_of s library.new.ledger.kept library.new.shelf library.new.known (D.state library.new.dir)) }
     ensures ready { HasSlots library.old.ledger.kept (D.state library.old.dir) → HasSlots library.new.ledger.kept (D.state library.new.dir) }
     ensures told { (D.state library.old.dir).moves ≡ None → (D.state library.new.dir).moves ≡ None }
+    ensures missed { IfOk result (λ made. is_missed (outcome_of made) ≡ true → (D.state library.old.dir).moves ≡ None) }
 {
     if !may_stage(library, number, unit) {
         return Err(Memory);
@@ -97,6 +101,7 @@ pub(crate) fn publish<D: Dir, N: Naming>(
     ensures again { (s : State) → StandsFor N.name_of s library.old.ledger.kept library.old.shelf library.old.known (D.state library.old.dir) → OnErr result (StandsFor N.name_of s library.new.ledger.kept library.new.shelf library.new.known (D.state library.new.dir)) }
     ensures ready { HasSlots library.new.ledger.kept (D.state library.new.dir) }
     ensures told { (D.state library.old.dir).moves ≡ None → (D.state library.new.dir).moves ≡ None }
+    ensures missed { IfOk result (λ made. is_missed (outcome_of made) ≡ true → (D.state library.old.dir).moves ≡ None) }
 {
     if !has_staged(library, number) {
         return Err(Memory);

@@ -1,5 +1,5 @@
 //! Turns that want no test but that there is the lane, and loads for asks.
-ghost use Rattle.std.specs.Prelude.{◌≡◌, ℕ, List, Some, IfOk, OnErr, None};
+ghost use Rattle.std.specs.Prelude.{◌≡◌, ℕ, List, true, Some, IfOk, OnErr, None};
 ghost use Rattle.ix_dir.specs.State.{counted_where};
 ghost use Rattle.ix_types.specs.declared.row.Query.{Query};
 ghost use Rattle.ix_machine.specs.State.{State};
@@ -9,7 +9,8 @@ ghost use Rattle.ix_lanes.specs.Progress.{Progress};
 ghost use Rattle.ix_library.specs.Looks.{MayLoadThere};
 ghost use Rattle.ix_library.specs.StandsFor.{HasSlots, StandsFor};
 ghost use Rattle.ix_import.specs.Importing.{Importing};
-ghost use Rattle.ix_calls.specs.Calling.{IsMadeBeside, IsNoted, turn_failed};
+ghost use Rattle.ix_turns.specs.Ended.{is_missed};
+ghost use Rattle.ix_calls.specs.Calling.{IsMadeBeside, IsNoted, outcome_of, turn_failed};
 ghost use Rattle.ix_calls.specs.Turns.{IsAtTurn};
 
 use crate::endings::{ended, let_go};
@@ -34,6 +35,7 @@ pub(crate) fn remove<D: Dir, N: Naming>(
     ensures again { (s : State) → StandsFor N.name_of s library.old.ledger.kept library.old.shelf library.old.known (D.state library.old.dir) → OnErr result (StandsFor N.name_of s library.new.ledger.kept library.new.shelf library.new.known (D.state library.new.dir)) }
     ensures ready { HasSlots library.old.ledger.kept (D.state library.old.dir) → HasSlots library.new.ledger.kept (D.state library.new.dir) }
     ensures told { (D.state library.old.dir).moves ≡ None → (D.state library.new.dir).moves ≡ None }
+    ensures missed { IfOk result (λ made. is_missed (outcome_of made) ≡ true → (D.state library.old.dir).moves ≡ None) }
 {
     ended(ix_turns::remove(alloc, library, number, output))
 }
@@ -50,6 +52,7 @@ pub(crate) fn collect<D: Dir, N: Naming>(
     ensures again { (s : State) → StandsFor N.name_of s library.old.ledger.kept library.old.shelf library.old.known (D.state library.old.dir) → OnErr result (StandsFor N.name_of s library.new.ledger.kept library.new.shelf library.new.known (D.state library.new.dir)) }
     ensures ready { HasSlots library.old.ledger.kept (D.state library.old.dir) → HasSlots library.new.ledger.kept (D.state library.new.dir) }
     ensures told { (D.state library.old.dir).moves ≡ None → (D.state library.new.dir).moves ≡ None }
+    ensures missed { IfOk result (λ made. is_missed (outcome_of made) ≡ true → (D.state library.old.dir).moves ≡ None) }
 {
     ended(ix_turns::collect(alloc, library, number))
 }
@@ -65,6 +68,7 @@ pub(crate) fn release<D: Dir, N: Naming>(
     ensures again { (s : State) → StandsFor N.name_of s library.old.ledger.kept library.old.shelf library.old.known (D.state library.old.dir) → OnErr result (StandsFor N.name_of s library.new.ledger.kept library.new.shelf library.new.known (D.state library.new.dir)) }
     ensures ready { HasSlots library.old.ledger.kept (D.state library.old.dir) → HasSlots library.new.ledger.kept (D.state library.new.dir) }
     ensures told { (D.state library.old.dir).moves ≡ None → (D.state library.new.dir).moves ≡ None }
+    ensures missed { IfOk result (λ made. is_missed (outcome_of made) ≡ true → (D.state library.old.dir).moves ≡ None) }
 {
     if !library.has_lane(number) {
         return Err(Memory);
@@ -86,6 +90,7 @@ pub(crate) fn load<D: Dir, N: Naming>(
     ensures again { (s : State) → StandsFor N.name_of s library.old.ledger.kept library.old.shelf library.old.known (D.state library.old.dir) → OnErr result (StandsFor N.name_of s library.new.ledger.kept library.new.shelf library.new.known (D.state library.new.dir)) }
     ensures ready { HasSlots library.old.ledger.kept (D.state library.old.dir) → HasSlots library.new.ledger.kept (D.state library.new.dir) }
     ensures told { (D.state library.old.dir).moves ≡ None → (D.state library.new.dir).moves ≡ None }
+    ensures missed { IfOk result (λ made. is_missed (outcome_of made) ≡ true → (D.state library.old.dir).moves ≡ None) }
 {
     ix_looks::laws::records_that_stand_have_one_value();
     let made = ix_turns::load(alloc, library, number, name, Purpose::Ask)?;

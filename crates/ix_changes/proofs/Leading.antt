@@ -1,5 +1,5 @@
 -- The moves of each change, and the state that the directory holds behind them.
-use Rattle.std.proofs.Common.{◌≡◌, ◌≢◌, ◌⊎◌, inl, inr, ℕ, Bool, true, false, cond, List, [], ◌∷◌, ◌++◌, refl, sym, ap, subst, ◌∙◌, Option, Some, None, is_some, IsSome, IfSome, IfOk, OnOk, OnErr, Result, Ok, Err, is_err, append_assoc, nat_eq}
+use Rattle.std.proofs.Common.{◌≡◌, ◌≢◌, ◌⊎◌, inl, inr, ℕ, Bool, true, false, cond, List, [], ◌∷◌, ◌++◌, refl, sym, ap, subst, ◌∙◌, Option, Some, None, is_some, IsSome, IfSome, IfOk, OnOk, OnErr, Result, Ok, Err, is_err, append_assoc, nat_eq, arith}
 use Rattle.std.specs.Cmp.Lexicographic.{pointwise}
 use Rattle.std.specs.Map.{lookup}
 use Rattle.std.specs.BTreeMap.{is_at, insert_entry}
@@ -37,8 +37,9 @@ use Rattle.ix_stops.specs.Prefixes.{LeavesPrefixes}
 use Rattle.ix_stops.specs.Shapes.{syncs, settled_moves}
 use Rattle.ix_stops.specs.Stands.{StandsOnDisk, flag_of, outcome_of}
 use Rattle.ix_changes.specs.Given.{Laws}
-use Rattle.ix_changes.specs.Holds.{Holds, Leads, IsAlikeOnDisk}
+use Rattle.ix_changes.specs.Holds.{Holds, Leads, Waits, IsAlikeOnDisk}
 use Rattle.ix_changes.specs.Syncs.{with_sync, with_syncs, IsStoppedIn}
+use Rattle.ix_changes.proofs.Waiting.{waiting_renamed, still_waits, synced_waits, publish_waits, remove_waits, collect_waits, nothing_waits}
 
 append_nothing : {A : Type 0} (xs : List A) → xs ++ [] ≡ xs
 append_nothing [] = refl
@@ -84,11 +85,12 @@ module _ (laws : Laws) where
     -- ---- a state that the directory holds now
 
     leads : (next : State) (shelf_now : OnShelf) (now : Option (List Move)) (moves : List Move) → now ≡ Some moves → StandsOnDisk name_of next moves × LeavesPrefixes name_of s.publications next.publications told moves
-        → Knows shelf_now (Some moves) → Leads name_of s next before now shelf_now
-    leads next shelf_now now moves is made knows = record {
+        → Knows shelf_now (Some moves) → (Waits s told → Waits next moves) → Leads name_of s next before now shelf_now
+    leads next shelf_now now moves is made knows waits = record {
       holds = record { told = moves; is = is; stands = made.0; knows = subst (Knows shelf_now) (sym is) knows };
       leaves = subst (λ b. IfTold b now (LeavesPrefixes name_of s.publications next.publications)) (sym holds.is)
           (subst (λ n. IfTold (Some told) n (LeavesPrefixes name_of s.publications next.publications)) (sym is) made.1);
+      waits = subst (λ b. IfSome b (Waits s) → IfSome now (Waits next)) (sym holds.is) (subst (λ n. Waits s told → IfSome n (Waits next)) (sym is) waits);
     }
 
     knows_told : shelf.unsynced ≡ false → IsSettledIn Records told
@@ -105,6 +107,7 @@ module _ (laws : Laws) where
         leads next shelf_now now (told ++ syncs records units) (is ∙ syncs_are records units)
         (laws.others name_of s next told records units holds.stands alike.publications alike.pending alike.records)
         (λ none. laws.records_settled told records units (λ not_made. knows_told (known none not_made)))
+        (λ waits. synced_waits s told waits next records units alike)
 
     pub unmoved_leads : (next : State) → IsAlikeOnDisk s next → Leads name_of s next before before shelf
     unmoved_leads next alike = synced_leads next shelf before false false alike refl (λ none _. none)
@@ -152,7 +155,8 @@ module _ (laws : Laws) where
             next,
             taken,
             leads next shelf_now now moves is (laws.put name_of s told lane body (ended outcome.Written next) renames.stamp holds.stands sound taken refl)
-                (λ none. let no : true ≡ false = sym unsynced ∙ none in absurd (cc)),
+                (λ none. let no : true ≡ false = sym unsynced ∙ none in absurd (cc))
+                (λ waits. still_waits s told waits next moves refl refl (let same = waiting_renamed told body.name body.bytes renames.stamp in omega (arith, same))),
           )
 
       pub shared_leads : (protected : Bool) (result : Result Put PutError) (shelf_now : OnShelf) (now : Option (List Move)) → protected ≡ is_guarded s lane body.name → result ≡ Ok answers.Shared
@@ -189,6 +193,7 @@ module _ (laws : Laws) where
         leads stepped.state shelf_now now (settled_moves settled changed) p.is
         (laws.publish name_of s told lane lease unit settled stepped shelf.unsynced bytes p.stamp (settled_moves settled changed) holds.stands sound leased staged taken ends knows_told spelled as_law)
         (λ _. still_settled settled changed (laws.settled_renamed mid Units name bytes p.stamp Records refl (laws.records_settled told shelf.unsynced pending knows_told)))
+        (λ one. publish_waits s told one name_of lane lease unit settled stepped shelf.unsynced pending name bytes p.stamp leased staged taken ends waits)
 
     -- ---- removal
 
@@ -204,6 +209,7 @@ module _ (laws : Laws) where
         leads stepped.state shelf now (settled_moves settled changed) is
         (laws.remove name_of s told lane output name settled stepped (settled_moves settled changed) holds.stands taken named (ap (λ b. settled_moves settled (moves_removed Units name (told ++ syncs false b))) waits))
         (λ none. still_settled settled changed (laws.settled_removed mid Units name Records refl (laws.records_settled told false pending (λ _. knows_told none))))
+        (λ one. remove_waits s told one name_of lane output name settled stepped pending named taken waits)
 
     -- ---- collect
 
@@ -216,6 +222,7 @@ module _ (laws : Laws) where
         (subst (λ b. StandsOnDisk name_of stepped.state (moves_removed Records name (told ++ syncs false b)) × LeavesPrefixes name_of s.publications stepped.state.publications told (moves_removed Records name (told ++ syncs false b))) (sym waits)
         (laws.collect name_of s told lane stepped name holds.stands sound taken ends))
         (λ none. let no : true ≡ false = sym unsynced ∙ none in absurd (cc))
+        (λ one. collect_waits s told one name_of lane name stepped pending taken waits)
 
     pub none_leads : (lane : ℕ) (stepped : Stepped) (pending : Bool) (now : Option (List Move)) → IsSound name_of s → pending ≡ is_some s.pending
         → step name_of s lane given.Collect outcome.Done ≡ Some stepped → stepped.outcome ≡ outcome.Nothing → now ≡ with_sync pending Units before → Leads name_of s stepped.state before now shelf
@@ -225,6 +232,7 @@ module _ (laws : Laws) where
         (subst (λ b. StandsOnDisk name_of stepped.state (told ++ syncs false b) × LeavesPrefixes name_of s.publications stepped.state.publications told (told ++ syncs false b)) (sym waits)
         (laws.collect_none name_of s told lane stepped holds.stands sound taken ends))
         (λ none. laws.records_settled told false pending (λ _. knows_told none))
+        (λ one. nothing_waits s told one name_of lane stepped pending taken waits)
 
     -- ---- failures
 

@@ -1,5 +1,5 @@
 //! What follows for the state that a directory holds. A caller's proof gets a law by calling its function, which does nothing.
-ghost use Rattle.std.specs.Prelude.{◌≡◌, ◌≢◌, ℕ, true, List, ◌++◌, map, Option, Some, None, Contains};
+ghost use Rattle.std.specs.Prelude.{◌≡◌, ◌≢◌, ◌⊎◌, ℕ, suc, true, List, ◌++◌, length, map, Option, Some, None, Contains};
 ghost use Rattle.std.specs.Option.{option_map};
 ghost use Rattle.ix_dir.specs.declared.area.Area.TheVariants as area;
 ghost use Rattle.ix_dir.specs.declared.moves.Move.{Move};
@@ -20,7 +20,8 @@ ghost use Rattle.ix_machine.specs.State.{State};
 ghost use Rattle.ix_opening.specs.AfterOpening.{opening_moves};
 ghost use Rattle.ix_opening.specs.Found.{opening_of};
 ghost use Rattle.ix_changes.specs.Given.{Laws, LookLaws};
-ghost use Rattle.ix_changes.specs.Holds.{Holds, Leads, IsAlikeOnDisk};
+ghost use Rattle.ix_stops.specs.Changes.{waiting};
+ghost use Rattle.ix_changes.specs.Holds.{Holds, Leads, Waits, IsAlikeOnDisk};
 ghost use Rattle.ix_changes.specs.Stamps.{AreStampsOf};
 
 /// Where a step makes no move, the directory holds the next state if that has the same publications, pending change and record files.
@@ -38,6 +39,14 @@ pub fn an_opening_is_held()
     ix_opening::laws::opening_leaves_sound_files();
     ix_dir::laws::a_pick_leaves_these();
 }
+
+/// At most one change of the units waits for a sync: none where the state says that none pends, and else the last publication, which it says to pend.
+pub fn at_most_one_change_waits()
+    ensures none { (s : State) (moves : List Move) → s.pending ≡ None → waiting moves ≡ 0 → Waits s moves }
+    ensures settled { (s : State) (moves : List Move) → Waits s moves → s.pending ≡ None → waiting moves ≡ 0 }
+    ensures one { (s : State) (moves : List Move) → Waits s moves → (waiting moves ≡ 0) ⊎ ((waiting moves ≡ 1) × ((mark : ℕ) × (s.pending ≡ Some mark) × (suc mark ≡ length s.publications))) }
+    ensures last { (s : State) (moves : List Move) (mark : ℕ) → Waits s moves → s.pending ≡ Some mark → suc mark ≡ length s.publications }
+{}
 
 /// A record that units need, whose records stand, stands whole, so it can be loaded; and what is loaded is the value that the units have.
 pub fn what_is_needed_can_be_loaded()

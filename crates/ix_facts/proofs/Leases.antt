@@ -1,5 +1,5 @@
 -- What is kept of leases is the state's.
-use Rattle.std.proofs.Common.{◌≡◌, ℕ, zero, suc, Bool, true, false, ◌||◌, List, [], ◌∷◌, map, slice_index_or, Option, Some, None, IfSome, option_map, refl, sym, ap, ◌∙◌, arith}
+use Rattle.std.proofs.Common.{◌≡◌, ℕ, zero, suc, Bool, true, false, ◌||◌, List, [], ◌∷◌, map, slice_index_or, Option, Some, None, IfSome, is_some, option_map, refl, sym, ap, subst, ◌∙◌, arith}
 use Rattle.ix_machine.specs.Needs.{option_any, has_name}
 use Rattle.ix_machine.specs.Needs as machine
 use Rattle.ix_machine.specs.Sound.{IsLeaseSound, IsSound}
@@ -53,6 +53,9 @@ guarded_alone : GuardLaws → (name_of : List ℕ → List ℕ) (s : State) → 
 unfolding need_list_of machine.is_needed alone
 guarded_alone laws name_of s sound lease good name = laws.guarded name_of (alone s.records lease) 0 name (sound_alone name_of s sound lease good)
 
+pub lease_is_sound : (name_of : List ℕ → List ℕ) (s : State) (lane : ℕ) (lease : state.Lease) → IfSome (lease_of s lane) (IsLeaseSound name_of s.records) → lease_of s lane ≡ Some lease → IsLeaseSound name_of s.records lease
+lease_is_sound name_of s lane lease sound is = subst (λ (o : Option state.Lease). IfSome o (IsLeaseSound name_of s.records)) is sound
+
 -- ---- of each lane
 
 pub staged_same : (name_of : List ℕ → List ℕ) (kept : Kept) (s : State) → Keeps name_of kept s → (lane : ℕ) → staged_in kept lane ≡ staged_by s lane
@@ -61,6 +64,13 @@ staged_same name_of kept s keeps lane = ap (λ (k : Kept). staged_in k lane) kee
 module _ (laws : GuardLaws) (name_of : List ℕ → List ℕ) (kept : Kept) (s : State) (keeps : Keeps name_of kept s) (lane : ℕ) where
   leased_lane : guard.lease_of kept.guard lane ≡ option_map lease_for (lease_of s lane)
   leased_lane = ap (λ (k : Kept). guard.lease_of k.guard lane) keeps.is ∙ lane_of_map lease_for s.leases lane
+
+  has_lease : (o : Option state.Lease) → is_some (option_map lease_for o) ≡ is_some o
+  has_lease None = refl
+  has_lease (Some l) = refl
+
+  pub leased_as : is_some (guard.lease_of kept.guard lane) ≡ is_some (lease_of s lane)
+  leased_as = ap (λ (o : Option guard.Lease). is_some o) leased_lane ∙ has_lease (lease_of s lane)
 
   leased_by : (name : List ℕ) (o : Option state.Lease) → option_any (leases_name name) (option_map lease_for o) ≡ option_any (λ (l : state.Lease). has_name name l.names) o
   leased_by name None = refl

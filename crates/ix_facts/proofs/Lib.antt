@@ -8,3 +8,5 @@ mod Publishing
 mod Playing
 mod Stamped
 mod Told
+mod Lasting
+mod SinceOpening

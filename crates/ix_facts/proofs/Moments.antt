@@ -26,31 +26,31 @@ use Rattle.ix_facts.specs.Given.{StepLaws}
 
 -- ---- counts
 
-made_rises : (moves : List UnitsMove) (c : Changes) → c.made ≤ (fold counted c moves).made
+pub made_rises : (moves : List UnitsMove) (c : Changes) → c.made ≤ (fold counted c moves).made
 made_rises [] c = omega arith
 made_rises (Changed ∷ moves) c = let rest = made_rises moves (counted c Changed) in omega (arith, rest)
 made_rises (Synced ∷ moves) c = made_rises moves (counted c Synced)
 
 -- what is acknowledged is made, and stays acknowledged
-acknowledged_rises : (moves : List UnitsMove) (c : Changes) → c.acknowledged ≤ c.made → c.acknowledged ≤ (fold counted c moves).acknowledged
+pub acknowledged_rises : (moves : List UnitsMove) (c : Changes) → c.acknowledged ≤ c.made → c.acknowledged ≤ (fold counted c moves).acknowledged
 acknowledged_rises [] c h = omega arith
 acknowledged_rises (Changed ∷ moves) c h = acknowledged_rises moves (counted c Changed) (omega (arith, h))
 acknowledged_rises (Synced ∷ moves) c h = let rest = acknowledged_rises moves (counted c Synced) (omega arith) in omega (arith, rest, h)
 
-acknowledged_within : (moves : List UnitsMove) (c : Changes) → c.acknowledged ≤ c.made → (fold counted c moves).acknowledged ≤ (fold counted c moves).made
+pub acknowledged_within : (moves : List UnitsMove) (c : Changes) → c.acknowledged ≤ c.made → (fold counted c moves).acknowledged ≤ (fold counted c moves).made
 acknowledged_within [] c h = h
 acknowledged_within (Changed ∷ moves) c h = acknowledged_within moves (counted c Changed) (omega (arith, h))
 acknowledged_within (Synced ∷ moves) c h = acknowledged_within moves (counted c Synced) (omega arith)
 
-abbrev none_yet : ℕ → Changes
+abbrev pub none_yet : ℕ → Changes
 none_yet base = record { made = base; acknowledged = base }
 
 module _ (from base : ℕ) (before : List Move) (within : from ≤ length before) where
-  abbrev Since : List Move → Changes
+  abbrev pub Since : List Move → Changes
   Since moves = changes_after base (units_moves (drop from moves))
 
   -- the changes with more moves behind
-  parts : (more : List Move) → Since (before ++ more) ≡ fold counted (Since before) (units_moves more)
+  pub parts : (more : List Move) → Since (before ++ more) ≡ fold counted (Since before) (units_moves more)
   parts more =
       ap (λ (ms : List Move). changes_after base (units_moves ms)) (drop-append-le from before more within)
       ∙ ap (λ (us : List UnitsMove). changes_after base us) (filter_map-append units_move (drop from before) more)

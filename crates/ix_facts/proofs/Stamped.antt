@@ -160,3 +160,13 @@ module _ (laws : DiskLaws) (name_of : List ℕ → List ℕ) (s : State) (known 
 
   pub import_known : is_some known.import ≡ is_some s.import
   import_known = alike s.import known.import knows.import
+
+-- the stamps at a mark are of one moment
+pub stamps_at : (name_of : List ℕ → List ℕ) (s : State) (known : KnownStamps) (moves : List Move) → KnowsUnits name_of s known moves → (mark : ℕ) (stamps : StampMap)
+    → ((mark ≡ s.current) × (stamps ≡ known.current)) ⊎ ((open_import : Import) × (s.import ≡ Some open_import) × (mark ≡ open_import.mark) × (known.import ≡ Some stamps)) → AreStampsOf name_of (units_at s.publications mark) stamps moves
+stamps_at name_of s known moves knows mark stamps (inl one) =
+    subst (λ (m : ℕ). AreStampsOf name_of (units_at s.publications m) stamps moves) (sym one.0) (subst (λ (t : StampMap). AreStampsOf name_of (units_at s.publications s.current) t moves) (sym one.1) knows.current)
+stamps_at name_of s known moves knows mark stamps (inr other) =
+    let there : AreStampsOfImport name_of s (Some other.0) (Some stamps) moves =
+    subst (λ (o : Option StampMap). AreStampsOfImport name_of s (Some other.0) o moves) other.3 (subst (λ (i : Option Import). AreStampsOfImport name_of s i known.import moves) other.1 knows.import) in
+    subst (λ (m : ℕ). AreStampsOf name_of (units_at s.publications m) stamps moves) (sym other.2) there

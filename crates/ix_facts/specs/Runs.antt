@@ -20,30 +20,30 @@ use Rattle.ix_library.specs.StandsFor.{StandsFor, Takes}
 -- ---- the machine
 
 -- the events of a run, and the state at its end
-pub record Run : Type 0 where
+pub record Played : Type 0 where
   pub events : List Event
   pub state : State
 
 -- the call as an event shows it: with the names of what it is given
-abbrev pub call_of : (List ℕ → List ℕ) → State → ℕ → Given → Call
-call_of name_of s lane (Lease names) = call.Lease names
-call_of name_of s lane (Put body) = call.Put body.name
-call_of name_of s lane (Stage unit) = call.Stage (name_of unit.output)
-call_of name_of s lane Publish = call.Publish (name_of_unit name_of (staged_by s lane))
-call_of name_of s lane (Remove output) = call.Remove (name_of output)
-call_of name_of s lane Scan = call.Scan
-call_of name_of s lane (Load name purpose) = call.Load name
-call_of name_of s lane Install = call.Install
-call_of name_of s lane Adopt = call.Adopt
-call_of name_of s lane Release = call.Release
-call_of name_of s lane Collect = call.Collect
+abbrev pub named_call : (List ℕ → List ℕ) → State → ℕ → Given → Call
+named_call name_of s lane (Lease names) = call.Lease names
+named_call name_of s lane (Put body) = call.Put body.name
+named_call name_of s lane (Stage unit) = call.Stage (name_of unit.output)
+named_call name_of s lane Publish = call.Publish (name_of_unit name_of (staged_by s lane))
+named_call name_of s lane (Remove output) = call.Remove (name_of output)
+named_call name_of s lane Scan = call.Scan
+named_call name_of s lane (Load name purpose) = call.Load name
+named_call name_of s lane Install = call.Install
+named_call name_of s lane Adopt = call.Adopt
+named_call name_of s lane Release = call.Release
+named_call name_of s lane Collect = call.Collect
 
 -- the event of a turn that is taken in the state
 abbrev pub event_of : (List ℕ → List ℕ) → State → Turn → Stepped → Event
-event_of name_of s t stepped = event t.lane (call_of name_of s t.lane t.given) stepped.outcome
+event_of name_of s t stepped = event t.lane (named_call name_of s t.lane t.given) stepped.outcome
 
 -- the run with an event in front
-abbrev pub behind : Event → Run → Run
+abbrev pub behind : Event → Played → Played
 behind first run = record { events = first ∷ run.events; state = run.state }
 
 -- a call of a lane with its flag
@@ -51,9 +51,9 @@ abbrev pub turn : ℕ → Given → Outcome → Turn
 turn lane given flag = record { lane = lane; given = given; flag = flag }
 
 -- the machine takes one turn after the other, each with its flag, and writes down how each ended. None where it doesn't take one
-abbrev pub run_of : (List ℕ → List ℕ) → State → List Turn → Option Run
-run_of name_of s [] = Some (record { events = []; state = s })
-run_of name_of s (t ∷ turns) = option_and_then (λ stepped. option_map (behind (event_of name_of s t stepped)) (run_of name_of stepped.state turns)) (step name_of s t.lane t.given t.flag)
+abbrev pub played_of : (List ℕ → List ℕ) → State → List Turn → Option Played
+played_of name_of s [] = Some (record { events = []; state = s })
+played_of name_of s (t ∷ turns) = option_and_then (λ stepped. option_map (behind (event_of name_of s t stepped)) (played_of name_of stepped.state turns)) (step name_of s t.lane t.given t.flag)
 
 -- ---- a library
 
@@ -90,7 +90,7 @@ shown name_of kept lane Release = call.Release
 shown name_of kept lane Collect = call.Collect
 
 -- what each call of a library says of itself: its step, its event, and what is there where memory was wanting
-pub record IsCall (name_of : List ℕ → List ℕ) (s : State) (before : Store) (called : Called) (after : Store) : Type 0 where
+pub record IsLibraryCall (name_of : List ℕ → List ℕ) (s : State) (before : Store) (called : Called) (after : Store) : Type 0 where
   pub takes : IfSome called.ending (λ how. Takes name_of s called.lane called.given (flag_for how) how before.dir after.kept after.shelf after.known after.dir)
   pub logged : after.events ≡ with_event before.events called.lane (shown name_of before.kept called.lane called.given) called.ending
   pub again : called.ending ≡ None → IsAt name_of s after
@@ -114,14 +114,14 @@ after_calls name_of s [] = s
 after_calls name_of s (called ∷ more) = after_calls name_of (after_call name_of s called) more
 
 -- the library that stood for the state was called so, one call after the other, and is this now
-abbrev pub IsRun : (List ℕ → List ℕ) → State → Store → List Called → Store → Type 0
-IsRun name_of s first [] last = first ≡ last
-IsRun name_of s first (called ∷ more) last = (between : Store) × IsCall name_of s first called between × IsRun name_of (after_call name_of s called) between more last
+abbrev pub AreLibraryCalls : (List ℕ → List ℕ) → State → Store → List Called → Store → Type 0
+AreLibraryCalls name_of s first [] last = first ≡ last
+AreLibraryCalls name_of s first (called ∷ more) last = (between : Store) × IsLibraryCall name_of s first called between × AreLibraryCalls name_of (after_call name_of s called) between more last
 
 -- the turn of a call that ended
 abbrev pub turn_of : Called → Option Turn
 turn_of called = option_map (λ how. turn called.lane called.given (flag_for how)) called.ending
 
 -- the turns of the calls that ended, in their order
-abbrev pub turns_of : List Called → List Turn
-turns_of calls = filter_map turn_of calls
+abbrev pub turns_taken : List Called → List Turn
+turns_taken calls = filter_map turn_of calls

@@ -1,34 +1,36 @@
 //! What a store that stands for a state keeps true on disk and in memory. A caller's proof gets a law by calling its function, which does nothing.
-ghost use Rattle.std.specs.Prelude.{◌≡◌, ◌↔◌, ◌⊎◌, ℕ, suc, ◌≤◌, List, [], ◌∷◌, length, map, slice_get, true, Option, Some, None, IfSome, option_map, is_some, Contains};
+ghost use Rattle.std.specs.Prelude.{◌≡◌, ◌↔◌, ◌⊎◌, ℕ, suc, ◌≤◌, List, [], ◌∷◌, length, map, take, slice_get, true, Option, Some, None, IfSome, option_map, is_some, Contains};
 ghost use Rattle.std.specs.FinMap.{get};
+ghost use Rattle.std.specs.List.{AllByRecursion};
 ghost use Rattle.std.specs.Map.{lookup};
 ghost use Rattle.std.specs.BTreeMap.{is_at};
 ghost use Rattle.ix_types.specs.Row.{text_cmp};
 ghost use Rattle.ix_dir.specs.declared.area.Area.TheVariants.{Units, Records};
 ghost use Rattle.ix_dir.specs.declared.moves.Move.{Move};
 ghost use Rattle.ix_dir.specs.declared.moves.Move.TheVariants.{Renamed, Placed};
+ghost use Rattle.ix_dir.specs.Crash.{standing};
 ghost use Rattle.ix_dir.specs.Files.{bytes_at};
 ghost use Rattle.ix_dir.specs.Images.{Image, IsImage, values_of};
 ghost use Rattle.ix_dir.specs.Moves.{area_after};
-ghost use Rattle.ix_dir.specs.State.{DirState};
+ghost use Rattle.ix_dir.specs.State.{DirState, is_staged, staged_bytes};
 ghost use Rattle.ix_record.specs.declared.value.RecordValue.{RecordValue};
 ghost use Rattle.ix_record.specs.Spelling.{RecordSpelling};
 ghost use Rattle.ix_unit.specs.declared.value.RecordDep.{RecordDep};
 ghost use Rattle.ix_unit.specs.declared.value.UnitValue.{UnitValue};
 ghost use Rattle.ix_unit.specs.Spelling.{UnitSpelling};
+ghost use Rattle.ix_unit.specs.Value.{IsValidUnit};
 ghost use Rattle.ix_shelf.specs.Shelf.{OnShelf};
-ghost use Rattle.ix_cabinet.specs.Scan.{StampMap};
+ghost use Rattle.ix_cabinet.specs.Scan.{StampMap, stamps_in};
 ghost use Rattle.ix_model.specs.declared.publication.StoredUnit.{StoredUnit};
 ghost use Rattle.ix_model.specs.Units as model;
 ghost use Rattle.ix_model.specs.Units.{needs, unit_named, units_after, units_at};
 ghost use Rattle.ix_machine.specs.Needs.{option_any, has_name, was_put as was_put_in};
-ghost use Rattle.ix_machine.specs.State.{Import, State, lease_of, held_by};
+ghost use Rattle.ix_machine.specs.State.{Import, Lease, State, lease_of, held_by};
 ghost use Rattle.ix_machine.specs.Step.{staged_by};
 ghost use Rattle.ix_guard.specs.Counts.{names_of};
 ghost use Rattle.ix_guard.specs.Guarding.{lease_of as guarded_lease};
 ghost use Rattle.ix_guard.specs.Protection.{leases_name, was_put};
 ghost use Rattle.ix_ledger.specs.Kept.{Kept, held_in, staged_in, unit_at};
-ghost use Rattle.ix_stops.specs.Changes.{waiting};
 ghost use Rattle.ix_stops.specs.UnitFiles.{Spell};
 ghost use Rattle.ix_library.specs.declared.known.KnownStamps.{KnownStamps};
 ghost use Rattle.ix_library.specs.StandsFor.{StandsFor};
@@ -36,7 +38,7 @@ ghost use Rattle.ix_library.specs.StandsFor.{StandsFor};
 use crate::given::{given_of_disk, given_of_guard};
 
 /// What is kept in memory is the state's, and so are the record files: publications by number, marks, visible units, staged units, and the names that lanes have
-/// leased and put.
+/// leased and put. A lane's slot has what it has staged; put names are leased, and a staged unit is valid and of put records.
 pub fn what_is_kept_is_the_states()
     ensures marks { (name_of : List ℕ → List ℕ) (s : State) (kept : Kept) (shelf : OnShelf) (known : KnownStamps) (dir : DirState) → StandsFor name_of s kept shelf known dir
         → (kept.published ≡ length s.publications) × (kept.pending ≡ s.pending) × (kept.import ≡ s.import) × (kept.current ≡ s.current) × (kept.held ≡ s.held) }
@@ -46,6 +48,13 @@ pub fn what_is_kept_is_the_states()
         → (lane : ℕ) → staged_in kept lane ≡ staged_by s lane }
     ensures leased { (name_of : List ℕ → List ℕ) (s : State) (kept : Kept) (shelf : OnShelf) (known : KnownStamps) (dir : DirState) → StandsFor name_of s kept shelf known dir
         → (lane : ℕ) (name : List ℕ) → option_any (leases_name name) (guarded_lease kept.guard lane) ≡ option_any (λ lease. has_name name lease.names) (lease_of s lane) }
+    ensures lanes { (name_of : List ℕ → List ℕ) (s : State) (kept : Kept) (shelf : OnShelf) (known : KnownStamps) (dir : DirState) → StandsFor name_of s kept shelf known dir
+        → (lane : ℕ) → is_some (guarded_lease kept.guard lane) ≡ is_some (lease_of s lane) }
+    ensures leases { (name_of : List ℕ → List ℕ) (s : State) (kept : Kept) (shelf : OnShelf) (known : KnownStamps) (dir : DirState) → StandsFor name_of s kept shelf known dir
+        → (lane : ℕ) (lease : Lease) → lease_of s lane ≡ Some lease → AllByRecursion (λ name. has_name name lease.names ≡ true) lease.put
+        × IfSome lease.staged (λ unit. IsValidUnit unit × AllByRecursion (λ dep. has_name dep.name lease.put ≡ true) unit.records) }
+    ensures staged_slots { (name_of : List ℕ → List ℕ) (s : State) (kept : Kept) (shelf : OnShelf) (known : KnownStamps) (dir : DirState) → StandsFor name_of s kept shelf known dir
+        → (lane : ℕ) (unit : UnitValue) → staged_by s lane ≡ Some unit → (is_staged dir lane ≡ true) × UnitSpelling (staged_bytes dir lane) unit }
     ensures put { (name_of : List ℕ → List ℕ) (s : State) (kept : Kept) (shelf : OnShelf) (known : KnownStamps) (dir : DirState) → StandsFor name_of s kept shelf known dir
         → (lane : ℕ) (name : List ℕ) → was_put kept.guard lane name ≡ was_put_in s lane name }
     ensures records { (name_of : List ℕ → List ℕ) (s : State) (kept : Kept) (shelf : OnShelf) (known : KnownStamps) (dir : DirState) (moves : List Move) → StandsFor name_of s kept shelf known dir
@@ -107,6 +116,10 @@ pub fn what_stands_in_memory()
         → ((name : List ℕ) (stored : StoredUnit) → unit_named name (units_at s.publications mark) ≡ Some stored → (stamp : ℕ) × (get stamps name ≡ Some stamp))
         × ((name : List ℕ) (stamp : ℕ) → get stamps name ≡ Some stamp → (stored : StoredUnit) × (bytes : List ℕ) × (unit_named name (units_at s.publications mark) ≡ Some stored) × UnitSpelling bytes stored.unit
         × (Contains moves (Renamed Units name bytes stamp) ⊎ Contains moves (Placed Units name bytes stamp))) }
+    // They are all of one moment, at which the unit files were the spellings of these units, and had these stamps.
+    ensures stamped_then { (name_of : List ℕ → List ℕ) (s : State) (kept : Kept) (shelf : OnShelf) (known : KnownStamps) (dir : DirState) (moves : List Move) → StandsFor name_of s kept shelf known dir → dir.moves ≡ Some moves
+        → (mark : ℕ) (stamps : StampMap) → ((mark ≡ s.current) × (stamps ≡ known.current)) ⊎ ((open_import : Import) × (s.import ≡ Some open_import) × (mark ≡ open_import.mark) × (known.import ≡ Some stamps))
+        → (moment : ℕ) × (moment ≤ length moves) × (stamps ≡ stamps_in (area_after (take moment moves) Units)) × Spell name_of (standing (take moment moves) Units) (units_at s.publications mark) }
     // They are known for an import exactly where one is open.
     ensures import_stamps { (name_of : List ℕ → List ℕ) (s : State) (kept : Kept) (shelf : OnShelf) (known : KnownStamps) (dir : DirState) (moves : List Move) → StandsFor name_of s kept shelf known dir → dir.moves ≡ Some moves → is_some known.import ≡ is_some s.import }
 {

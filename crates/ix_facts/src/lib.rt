@@ -3,6 +3,7 @@
 
 pub mod facts;
 mod given;
+pub mod lasts;
 pub mod runs;
 pub mod stops;
 #[cfg(test)]

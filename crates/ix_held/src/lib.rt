@@ -2,5 +2,7 @@
 #![tactic(auto)]
 
 mod asks;
+#[cfg(test)]
+mod tests;
 
 pub use asks::{Next, ask};

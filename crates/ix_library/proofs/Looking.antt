@@ -10,7 +10,7 @@ use Rattle.ix_machine.specs.State.{State}
 use Rattle.ix_ledger.specs.Kept.{Kept}
 use Rattle.ix_ledger.specs.OfState.{Makes}
 use Rattle.ix_stops.specs.Prefixes.{LeavesPrefixes}
-use Rattle.ix_changes.specs.Holds.{Holds, IsAlikeOnDisk}
+use Rattle.ix_changes.specs.Holds.{Holds, Waits, IsAlikeOnDisk}
 use Rattle.ix_library.specs.declared.known.KnownStamps.{KnownStamps}
 use Rattle.ix_library.specs.Given.{Laws}
 use Rattle.ix_library.specs.KnownUnits.{KnowsUnits}
@@ -44,4 +44,5 @@ look_takes laws name_of s lane given flag how next old kept now known known_now 
       };
       adds = subst (λ (m : Option (List Move)). AddsTo before.moves m) (sym look.moves) (none_added before.moves);
       leaves = subst (λ (m : Option (List Move)). IfTold before.moves m (LeavesPrefixes name_of s.publications next.publications)) (sym look.moves) leads.leaves;
+      waits = subst (λ (m : Option (List Move)). IfSome before.moves (Waits s) → IfSome m (Waits next)) (sym look.moves) leads.waits;
     })

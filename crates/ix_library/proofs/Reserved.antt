@@ -10,7 +10,7 @@ use Rattle.ix_machine.specs.Given.{Given}
 use Rattle.ix_machine.specs.State.{State}
 use Rattle.ix_ledger.specs.Kept.{Kept, staged_in}
 use Rattle.ix_stops.specs.Prefixes.{LeavesPrefixes}
-use Rattle.ix_changes.specs.Holds.{Holds}
+use Rattle.ix_changes.specs.Holds.{Holds, Waits}
 use Rattle.ix_library.specs.declared.known.KnownStamps.{KnownStamps}
 use Rattle.ix_library.specs.Endings.{flag_for}
 use Rattle.ix_library.specs.KnownUnits.{KnowsUnits}
@@ -42,6 +42,7 @@ module _ (name_of : List ℕ → List ℕ) (s : State) (known : KnownStamps) (be
     stands = t.stands;
     adds = subst (λ (m : Option (List Move)). AddsTo m after.moves) moves t.adds;
     leaves = subst (λ (m : Option (List Move)). IfTold m after.moves (LeavesPrefixes name_of s.publications t.next.publications)) moves t.leaves;
+    waits = subst (λ (m : Option (List Move)). IfSome m (Waits s) → IfSome after.moves (Waits t.next)) moves t.waits;
   }
 
   -- however it ended

@@ -51,6 +51,7 @@ module _ (laws : Laws) (name_of : List ℕ → List ℕ) (s : State) (lane : ℕ
         };
         adds = adds;
         leaves = leads.leaves;
+        waits = leads.waits;
       })
 
 -- the same for a step without moves

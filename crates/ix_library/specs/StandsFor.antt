@@ -12,7 +12,7 @@ use Rattle.ix_machine.specs.Step.{step, ended}
 use Rattle.ix_ledger.specs.Kept.{Kept, staged_in}
 use Rattle.ix_ledger.specs.OfState.{Keeps}
 use Rattle.ix_stops.specs.Prefixes.{LeavesPrefixes}
-use Rattle.ix_changes.specs.Holds.{Holds}
+use Rattle.ix_changes.specs.Holds.{Holds, Waits}
 use Rattle.ix_library.specs.declared.known.KnownStamps.{KnownStamps}
 use Rattle.ix_library.specs.KnownUnits.{KnowsUnits}
 
@@ -33,11 +33,12 @@ pub record StandsFor (name_of : List ℕ → List ℕ) (s : State) (kept : Kept)
   pub staged : HasStaged kept dir
   pub knows : IfSome dir.moves (KnowsUnits name_of s known)
 
--- the machine takes the call with this flag and ends it so; the library stands for the state after; moves are only added, and at each moment of the step
--- a crash leaves a prefix of its publications
+-- The machine takes the call with this flag and ends it so; the library stands for the state after; moves are only added, and at each moment of the step
+-- a crash leaves a prefix of its publications. Where at most the change that pends waited for a sync before, it is so now.
 pub record Takes (name_of : List ℕ → List ℕ) (s : State) (lane : ℕ) (given : Given) (flag outcome : Outcome) (before : DirState) (kept : Kept) (shelf : OnShelf) (known : KnownStamps) (dir : DirState) : Type 0 where
   pub next : State
   pub taken : step name_of s lane given flag ≡ Some (ended outcome next)
   pub stands : StandsFor name_of next kept shelf known dir
   pub adds : AddsTo before.moves dir.moves
   pub leaves : IfTold before.moves dir.moves (LeavesPrefixes name_of s.publications next.publications)
+  pub waits : IfSome before.moves (Waits s) → IfSome dir.moves (Waits next)

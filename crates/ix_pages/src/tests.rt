@@ -147,6 +147,7 @@ fn changes_go_in_one_go(rt: HostRuntime) {
     }
     let twice = [Change::Put(2, 1), Change::Take(2)];
     assert!(rt; !are_rising::<u64, u64>(&twice));
+    assert!(rt; *twice[1].key() == 2);
 }
 
 #[test]

@@ -1,5 +1,5 @@
 -- A value's lists and members, beside those of the definitions.
-use Rattle.std.proofs.Common.{◌≡◌, ℕ, ◌<◌, Bool, true, false, List, [], ◌∷◌, ◌++◌, length, map, codes, ◌+◌, ◌||◌, bytes_eq, Bor, refl, sym, ap, ◌∙◌, arith, suc, add-one, drop, get_or, Ok}
+use Rattle.std.proofs.Common.{◌≡◌, ℕ, ◌<◌, Bool, true, false, List, [], ◌∷◌, ◌++◌, length, map, codes, ◌+◌, ◌||◌, bytes_eq, Bor, refl, sym, ap, subst, ◌∙◌, arith, suc, add-one, drop, get_or, Result, Ok, Err}
 use Rattle.std.specs.List.{list_any, list_all}
 use Rattle.std.specs.Fmt.{decimal}
 use Rattle.std.proofs.Math.Seq.{drop-cons}
@@ -9,7 +9,9 @@ use Rattle.std.specs.Str.{IsUtf8}
 use Rattle.serde_json.specs.Read.{read}
 use Rattle.serde_json.specs.Data.{Data}
 use Rattle.ix_plan.specs.View.{view, items_view, members_view}
-use Rattle.ix_plan.specs.Read.{Read, ◌>>=◌, within}
+use Rattle.ix_plan.specs.declared.refusal.ScriptError.{ScriptError}
+use Rattle.ix_plan.specs.declared.refusal.ScriptError.TheVariants.{Memory, Refused}
+use Rattle.ix_plan.specs.Read.{Read, Fails, Gives, ◌>>=◌, within}
 use Rattle.ix_plan.specs.declared.value.Value.{Value}
 use Rattle.ix_plan.specs.Texts.{text_at}
 use Rattle.ix_plan.proofs.Members.{Member, keys_of_members}
@@ -54,3 +56,14 @@ pub next_item : {S A : Type 0} (f : S → Data → Read A) (add : S → A → S)
 next_item f add s i vs v a lt is read =
     let front : drop i vs ≡ v ∷ drop (i + 1) vs = rw add-one (drop-cons vs i v lt ∙ ap (λ x. x ∷ drop (suc i) vs) (sym is)) in
     ap (λ xs. in_order f add s i (items_view xs)) front ∙ ap (λ r. r >>= (λ b. in_order f add (add s b) (i + 1) (items_view (drop (i + 1) vs)))) read
+
+-- one item isn't read, and those behind it are left
+pub failed_item : {S A : Type 0} (f : S → Data → Read A) (add : S → A → S) (s : S) (i : ℕ) (vs : List Value) (v : Value) (e : ScriptError)
+    → i < length vs → v ≡ get_or vs i v → Fails e (within (decimal i) (f s (view v))) → Fails e (in_order f add s i (items_view (drop i vs)))
+failed_item f add s i vs v Memory lt is failed = tt
+failed_item f add s i vs v (Refused r) lt is failed =
+    let front : drop i vs ≡ v ∷ drop (i + 1) vs = rw add-one (drop-cons vs i v lt ∙ ap (λ x. x ∷ drop (suc i) vs) (sym is)) in
+    ap (λ xs. in_order f add s i (items_view xs)) front ∙ ap (λ r. r >>= (λ b. in_order f add (add s b) (i + 1) (items_view (drop (i + 1) vs)))) failed
+
+pub not_given : {A : Type 0} {result : Result A ScriptError} {e : ScriptError} {read whole : Read A} → result ≡ Err e → read ≡ whole → Fails e read → Gives result whole
+not_given {result = result} {e = e} {read = read} {whole = whole} is same failed = subst (λ r. Gives r whole) (sym is) (subst (λ r. Fails e r) same failed)

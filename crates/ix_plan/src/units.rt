@@ -1,5 +1,6 @@
 //! Reading the plan of a compile job from a JSON value, one reader an object.
-ghost use Rattle.std.specs.Prelude.{◌≡◌, [], codes, false};
+ghost use Rattle.std.specs.Prelude.{◌≡◌, [], codes, false, IfOk};
+ghost use Rattle.ix_plan.specs.Usrs.{Keeps, KeepsNext};
 ghost use Rattle.ix_plan.specs.View.{view, items_view};
 ghost use Rattle.ix_types.specs.Codes as tables;
 ghost use Rattle.ix_types.specs.Codes.{swift_code};
@@ -17,7 +18,7 @@ use crate::plan::{
     FilePlan, IncludePlan, OccurrencePlan, RecordPlan, RelationPlan, SymbolPlan, UnitPlan,
 };
 use crate::refusal::{ScriptError, ScriptRefusal, What};
-use crate::symbol_table::SymbolTable;
+use crate::symbol_table::{SymbolTable, Usrs};
 use crate::value::Value;
 use crate::values::{WordSort, kind, known_usr, lang, new_usr, props, text};
 use crate::words::Words;
@@ -159,12 +160,18 @@ impl<'s> Item<Around<'s>> for OccurrencePlan {
     }
 }
 
-/// The USR of a symbol beside those before it.
-fn new_usr_field(alloc: Global, table: &SymbolTable, value: &Value<'_>) -> Result<Text, ScriptError>
-    ensures { Gives result (field (codes "usr") (new_usr_of (is_usr_of table.now)) (view value.now)) }
+/// The USR of the symbol that comes behind these, which is kept with theirs.
+fn new_usr_field(
+    alloc: Global,
+    symbols: &[SymbolPlan],
+    usrs: &mut Usrs,
+    value: &Value<'_>,
+) -> Result<Text, ScriptError>
+    ensures read { Keeps usrs.old.firsts usrs.old.others.keys symbols.now → Gives result (field (codes "usr") (new_usr_of (is_usr_of symbols.now)) (view value.now)) }
+    ensures kept { Keeps usrs.old.firsts usrs.old.others.keys symbols.now → IfOk result (λ usr. KeepsNext usrs.new.firsts usrs.new.others.keys symbols.now usr) }
 {
     let found = member(alloc, value, "usr")?;
-    within(alloc, "usr", new_usr(alloc, table, found))
+    within(alloc, "usr", new_usr(alloc, symbols, usrs, found))
 }
 
 /// The kind of a symbol, unknown where it is absent.
@@ -239,18 +246,20 @@ fn codegen(alloc: Global, format: Format, value: &Value<'_>) -> Result<Text, Scr
     }
 }
 
-/// A symbol beside those before it.
+/// The symbol that comes behind these, whose USR is kept with theirs.
 #[tactic(auto, unfolding(crate::specs::Plans::symbol_of))]
 fn symbol(
     alloc: Global,
     setting: &Setting,
-    table: &SymbolTable,
+    symbols: &[SymbolPlan],
+    usrs: &mut Usrs,
     value: &Value<'_>,
 ) -> Result<SymbolPlan, ScriptError>
-    ensures { Gives result (symbol_of setting.now.format (is_usr_of table.now) (view value.now)) }
+    ensures read { Keeps usrs.old.firsts usrs.old.others.keys symbols.now → Gives result (symbol_of setting.now.format (is_usr_of symbols.now) (view value.now)) }
+    ensures kept { Keeps usrs.old.firsts usrs.old.others.keys symbols.now → IfOk result (λ symbol. KeepsNext usrs.new.firsts usrs.new.others.keys symbols.now symbol.usr) }
 {
     with_symbol_fields(alloc, setting.format, value)?;
-    let usr = new_usr_field(alloc, table, value)?;
+    let usr = new_usr_field(alloc, symbols, usrs, value)?;
     let name = text_or_none(alloc, value, "name")?;
     let kind = kind_or_unknown(alloc, &setting.words, value)?;
     let lang = lang_or_swift(alloc, &setting.words, value)?;
@@ -274,13 +283,17 @@ fn each_symbol(
 ) -> Result<SymbolTable, ScriptError>
     ensures { Gives result (in_order (λ before. symbol_of setting.now.format (is_usr_of before)) one_more [] 0 (items_view values.now)) }
 {
-    let empty = SymbolTable::new(alloc, values.len())?;
-    let mut table = empty;
+    let mut symbols = Vec::with_capacity(alloc, values.len())?;
+    let mut usrs = Usrs::new(alloc);
     for (index, value) in values.iter().enumerate() {
-        let symbol = within_item(alloc, index, symbol(alloc, setting, &table, value))?;
-        table = table.with(alloc, symbol)?;
+        let symbol = within_item(
+            alloc,
+            index,
+            symbol(alloc, setting, symbols.as_slice(), &mut usrs, value),
+        )?;
+        symbols.push(symbol)?;
     }
-    Ok(table)
+    Ok(SymbolTable::of(symbols, usrs))
 }
 
 fn symbols(alloc: Global, setting: &Setting, value: &Value<'_>) -> Result<SymbolTable, ScriptError>
@@ -319,7 +332,7 @@ fn symbols_or_none(
 {
     match value.get("symbols") {
         Some(found) => within(alloc, "symbols", symbols(alloc, setting, found)),
-        None => Ok(SymbolTable::new(alloc, 0)?),
+        None => Ok(SymbolTable::of(Vec::new(alloc), Usrs::new(alloc))),
     }
 }
 

@@ -6,12 +6,14 @@ ghost use Rattle.ix_plan.specs.Read.{Gives, GivesAs, within};
 ghost use Rattle.ix_plan.specs.Json.{few_of};
 ghost use Rattle.std.specs.Fmt.{decimal};
 ghost use Rattle.ix_plan.specs.Plans.{is_usr_of};
+ghost use Rattle.ix_plan.specs.Usrs.{Keeps, KeepsNext};
 ghost use Rattle.ix_plan.specs.Values.{string_of, text_of, text_or_empty_of, flag_of, number_of, count_of, word_of, tested, role_of, relation_of, prop_of, bit_of, width, with_bit, bits_from, bits_of, some_bits_from, some_bits_of, new_usr_of, known_usr_of};
 ghost use Rattle.ix_types.specs.Text.{refusal};
 
 use crate::objects::{bad_value, within_item};
+use crate::plan::SymbolPlan;
 use crate::refusal::{ScriptError, ScriptRefusal, What};
-use crate::symbol_table::SymbolTable;
+use crate::symbol_table::{SymbolTable, Usrs};
 use crate::value::Value;
 use crate::words::Words;
 use ix_types::{Kind, Lang, Props, Roles, Text, TextError};
@@ -293,13 +295,19 @@ fn props_from(alloc: Global, words: &Words, items: &[Value<'_>]) -> Result<Props
     }
 }
 
-/// The USR of a symbol beside those before it.
-pub fn new_usr(alloc: Global, table: &SymbolTable, value: &Value<'_>) -> Result<Text, ScriptError>
-    ensures { Gives result (new_usr_of (is_usr_of table.now) (view value.now)) }
+/// The USR of the symbol that comes behind these, which is kept with theirs.
+pub fn new_usr(
+    alloc: Global,
+    symbols: &[SymbolPlan],
+    usrs: &mut Usrs,
+    value: &Value<'_>,
+) -> Result<Text, ScriptError>
+    ensures read { Keeps usrs.old.firsts usrs.old.others.keys symbols.now → Gives result (new_usr_of (is_usr_of symbols.now) (view value.now)) }
+    ensures kept { Keeps usrs.old.firsts usrs.old.others.keys symbols.now → IfOk result (λ usr. KeepsNext usrs.new.firsts usrs.new.others.keys symbols.now usr) }
 {
     let usr = text(alloc, value)?;
-    let taken = table.has(usr.bytes());
-    if taken { bad_value(alloc) } else { Ok(usr) }
+    let new = usrs.keep(alloc, symbols, usr.bytes())?;
+    if new { Ok(usr) } else { bad_value(alloc) }
 }
 
 /// The USR of one of the symbols.

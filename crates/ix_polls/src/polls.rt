@@ -12,7 +12,7 @@ ghost use Rattle.ix_import.specs.Importing.{next_of};
 ghost use Rattle.ix_lanes.specs.Calls as turn;
 ghost use Rattle.ix_lanes.specs.Calls.{load_or_install, next_turn};
 ghost use Rattle.ix_lanes.specs.Progress.{Progress};
-ghost use Rattle.ix_turns.specs.Ended.{call_failed};
+ghost use Rattle.ix_turns.specs.Ended.{call_failed, is_missed};
 ghost use Rattle.ix_polls.specs.Following.{IsImporting, IsUnderWay};
 ghost use Rattle.ix_polls.specs.Polling.{FollowsThere, Polls, followed, import_shows, loaded_into, poll_ends, version_of};
 
@@ -44,6 +44,7 @@ pub fn scan<D: Dir, N: Naming>(
     ensures again { (s : State) → StandsFor N.name_of s library.old.ledger.kept library.old.shelf library.old.known (D.state library.old.dir) → OnErr result (StandsFor N.name_of s library.new.ledger.kept library.new.shelf library.new.known (D.state library.new.dir)) }
     ensures ready { HasSlots library.old.ledger.kept (D.state library.old.dir) → HasSlots library.new.ledger.kept (D.state library.new.dir) }
     ensures told { (D.state library.old.dir).moves ≡ None → (D.state library.new.dir).moves ≡ None }
+    ensures missed { IfOk result (λ made. is_missed made.outcome ≡ true → (D.state library.old.dir).moves ≡ None) }
 {
     given();
     let made = ix_turns::scan(alloc, library, lane)?;
@@ -77,8 +78,10 @@ pub fn import<D: Dir, N: Naming>(
         → IfOk result (λ made. Polls N.name_of s lane p (load_or_install (next_of importer.old)) made.outcome (version_of made) (D.state library.old.dir) library.new.ledger.kept library.new.shelf library.new.known (D.state library.new.dir) importer.new) }
     ensures event { IfOk result (λ made. library.new.ledger.events ≡ with_event library.old.ledger.events lane (import_shows (next_of importer.old)) (Some made.outcome)) }
     ensures cause { (D.state library.new.dir).faults ≡ counted_where (call_failed (poll_ends result)) (D.state library.old.dir).faults }
+    ensures again { (s : State) → StandsFor N.name_of s library.old.ledger.kept library.old.shelf library.old.known (D.state library.old.dir) → OnErr result (StandsFor N.name_of s library.new.ledger.kept library.new.shelf library.new.known (D.state library.new.dir)) }
     ensures ready { HasSlots library.old.ledger.kept (D.state library.old.dir) → HasSlots library.new.ledger.kept (D.state library.new.dir) }
     ensures told { (D.state library.old.dir).moves ≡ None → (D.state library.new.dir).moves ≡ None }
+    ensures missed { IfOk result (λ made. is_missed made.outcome ≡ true → (D.state library.old.dir).moves ≡ None) }
 {
     given();
     match importer.next_new() {
@@ -101,8 +104,10 @@ fn load_new<D: Dir, N: Naming>(
         → IfOk result (λ made. Polls N.name_of s lane p (calls.Load name Purpose.Import) made.outcome (version_of made) (D.state library.old.dir) library.new.ledger.kept library.new.shelf library.new.known (D.state library.new.dir) importer.new) }
     ensures event { IfOk result (λ made. library.new.ledger.events ≡ with_event library.old.ledger.events lane (call.Load name) (Some made.outcome)) }
     ensures cause { (D.state library.new.dir).faults ≡ counted_where (call_failed (poll_ends result)) (D.state library.old.dir).faults }
+    ensures again { (s : State) → StandsFor N.name_of s library.old.ledger.kept library.old.shelf library.old.known (D.state library.old.dir) → OnErr result (StandsFor N.name_of s library.new.ledger.kept library.new.shelf library.new.known (D.state library.new.dir)) }
     ensures ready { HasSlots library.old.ledger.kept (D.state library.old.dir) → HasSlots library.new.ledger.kept (D.state library.new.dir) }
     ensures told { (D.state library.old.dir).moves ≡ None → (D.state library.new.dir).moves ≡ None }
+    ensures missed { IfOk result (λ made. is_missed made.outcome ≡ true → (D.state library.old.dir).moves ≡ None) }
 {
     given();
     let made = ix_turns::load(alloc, library, lane, name, Purpose::Import)?;
@@ -148,8 +153,10 @@ fn install<D: Dir, N: Naming>(
         → IfOk result (λ made. Polls N.name_of s lane p calls.Install made.outcome (version_of made) (D.state library.old.dir) library.new.ledger.kept library.new.shelf library.new.known (D.state library.new.dir) importer.new) }
     ensures event { IfOk result (λ made. library.new.ledger.events ≡ with_event library.old.ledger.events lane call.Install (Some made.outcome)) }
     ensures cause { (D.state library.new.dir).faults ≡ counted_where (call_failed (poll_ends result)) (D.state library.old.dir).faults }
+    ensures again { (s : State) → StandsFor N.name_of s library.old.ledger.kept library.old.shelf library.old.known (D.state library.old.dir) → OnErr result (StandsFor N.name_of s library.new.ledger.kept library.new.shelf library.new.known (D.state library.new.dir)) }
     ensures ready { HasSlots library.old.ledger.kept (D.state library.old.dir) → HasSlots library.new.ledger.kept (D.state library.new.dir) }
     ensures told { (D.state library.old.dir).moves ≡ None → (D.state library.new.dir).moves ≡ None }
+    ensures missed { IfOk result (λ made. is_missed made.outcome ≡ true → (D.state library.old.dir).moves ≡ None) }
 {
     given();
     if !can_install(library, importer, lane) {
@@ -185,6 +192,7 @@ pub fn adopt<D: Dir, N: Naming>(
     ensures again { (s : State) → StandsFor N.name_of s library.old.ledger.kept library.old.shelf library.old.known (D.state library.old.dir) → OnErr result (StandsFor N.name_of s library.new.ledger.kept library.new.shelf library.new.known (D.state library.new.dir)) }
     ensures ready { HasSlots library.old.ledger.kept (D.state library.old.dir) → HasSlots library.new.ledger.kept (D.state library.new.dir) }
     ensures told { (D.state library.old.dir).moves ≡ None → (D.state library.new.dir).moves ≡ None }
+    ensures missed { IfOk result (λ made. is_missed made.outcome ≡ true → (D.state library.old.dir).moves ≡ None) }
 {
     given();
     if !library.has_lane(lane) {

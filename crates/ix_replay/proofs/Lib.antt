@@ -9,3 +9,5 @@ mod Places
 mod Settling
 mod Stepping
 mod Can
+mod Leaving
+mod Stopping

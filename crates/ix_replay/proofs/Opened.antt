@@ -39,6 +39,10 @@ pub both_told : (told : Option (List Move)) (P Q R : List Move → Type 0) → (
 both_told None P Q R leads first second = tt
 both_told (Some moves) P Q R leads first second = leads moves first second
 
+pub three_told : (told : Option (List Move)) (P Q R T : List Move → Type 0) → ((moves : List Move) → P moves → Q moves → R moves → T moves) → IfSome told P → IfSome told Q → IfSome told R → IfSome told T
+three_told None P Q R T leads first second third = tt
+three_told (Some moves) P Q R T leads first second third = leads moves first second third
+
 -- a runner over what was opened can step
 pub can_step : (name_of : List ℕ → List ℕ) (before : Option (List Move)) (books : Books) (shelf : OnShelf) (known : KnownStamps) (dir start : DirState) (importer : Importing) (seats : List Seated) (kept : Kept)
     → books.kept ≡ kept → dir ≡ start → HasSlots kept start → AddsTo before start.moves → AllByRecursion (λ (seat : Seated). AreSound name_of seat.lane.progress.tasks) seats

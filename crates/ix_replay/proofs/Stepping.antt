@@ -31,7 +31,10 @@ use Rattle.ix_seats.specs.Seats.{IsSeat, lacks}
 use Rattle.ix_calls.specs.Calling.{event_of, outcome_of}
 use Rattle.ix_calls.specs.Turns.{IsAtTurn, IsCall}
 use Rattle.ix_replay.specs.Given.{StepLaws}
+use Rattle.ix_turns.specs.Ended.{is_missed}
+use Rattle.ix_replay.specs.Left.{LeavesBehind}
 use Rattle.ix_replay.specs.Runs.{IsInRun, IsRun}
+use Rattle.ix_replay.proofs.Leaving.{held_there, not_missed, still_left}
 use Rattle.ix_replay.proofs.Places.{each_place, there_too}
 use Rattle.ix_replay.proofs.Settling.{call_polls, no_import, settled_held, settled_way}
 
@@ -116,16 +119,17 @@ module _ (laws : StepLaws) (name_of : List ℕ → List ℕ) (lanes : List (List
     ends none = laws.over name_of lanes run lane own its (ap (λ (q : Progress). next_turn q) (sym (as_far own its)) ∙ none)
 
   pub stays : next_turn new.lane.progress ≡ None → (next : Run) × GoesOn name_of lanes run lane false next × IsRun name_of lanes next books shelf known dir importing (set seats lane new)
-  stays none = (run, ends own_tasks.0 own_tasks.1 none, run_still own_tasks.0 own_tasks.1)
+      × LeavesBehind name_of run next dir.moves dir.moves
+  stays none = (run, ends own_tasks.0 own_tasks.1 none, run_still own_tasks.0 own_tasks.1, still_left laws.still name_of run dir.moves (held_there name_of run.state shelf dir.moves r.stands.holds))
 
   pub stays_shown : (shown : Under) → shown ≡ new.lane → (o : Option Made) → o ≡ None → is_some o ≡ is_some (next_turn shown.progress)
-      → (next : Run) × GoesOn name_of lanes run lane false next × IsRun name_of lanes next books shelf known dir importing (set seats lane new)
+      → (next : Run) × GoesOn name_of lanes run lane false next × IsRun name_of lanes next books shelf known dir importing (set seats lane new) × LeavesBehind name_of run next dir.moves dir.moves
   stays_shown shown is o none same =
       stays (none_left (next_turn new.lane.progress) (ap (λ (m : Option Made). is_some m) (sym none) ∙ (same ∙ ap (λ (l : Under). is_some (next_turn l.progress)) is)))
 
   -- ---- a call
 
-  module _ (books' : Books) (shelf' : OnShelf) (known' : KnownStamps) (dir' : DirState) (importing' : Importer) (made : Made) (final : Seated) (tells : IsTold new final made) where
+  module _ (books' : Books) (shelf' : OnShelf) (known' : KnownStamps) (dir' : DirState) (importing' : Importer) (made : Made) (final : Seated) (tells : IsTold new final made) (missed : is_missed (outcome_of made) ≡ true → dir.moves ≡ None) where
     module _ (own : List Task) (its : slice_get lanes lane ≡ Some own)
         (k : IsCall name_of run.state lane (progress_of run lane own) books.events dir made books'.events books'.kept shelf' known' dir' importing importing') where
       abbrev stepped : Stepped
@@ -206,11 +210,22 @@ module _ (laws : StepLaws) (name_of : List ℕ → List ℕ) (lanes : List (List
         seated = each_place (λ (other : ℕ) (tasks : List Task) (seat : Seated). IsInRun next other tasks importing' seat) lanes seats lane own old final its there own_then other_then;
       }
 
+      left : LeavesBehind name_of run next dir.moves dir'.moves
+      left = record {
+        adds = k.is.takes.adds;
+        grows = laws.grows name_of run.state lane k.is.given (flag_of (outcome_of made)) stepped k.is.takes.taken;
+        prefixes = k.is.takes.leaves;
+        more = event_of lane (call_of name_of run.state lane k.is.given) made ∷ [];
+        came = refl;
+        found = (not_missed (is_missed (outcome_of made)) dir.moves r.stands.holds.told missed r.stands.holds.is, tt);
+      }
+
       goes_on : (after_it : Run) × GoesOn name_of lanes run lane true after_it × IsRun name_of lanes after_it books' shelf' known' dir' importing' (set seats lane final)
-      goes_on = (next, goes, run_then)
+          × LeavesBehind name_of run after_it dir.moves dir'.moves
+      goes_on = (next, goes, run_then, left)
 
     pub steps : IsCall name_of run.state lane new.lane.progress books.events dir made books'.events books'.kept shelf' known' dir' importing importing'
-        → (next : Run) × GoesOn name_of lanes run lane true next × IsRun name_of lanes next books' shelf' known' dir' importing' (set seats lane final)
+        → (next : Run) × GoesOn name_of lanes run lane true next × IsRun name_of lanes next books' shelf' known' dir' importing' (set seats lane final) × LeavesBehind name_of run next dir.moves dir'.moves
     steps call =
         goes_on own_tasks.0 own_tasks.1
         (subst (λ (q : Progress). IsCall name_of run.state lane q books.events dir made books'.events books'.kept shelf' known' dir' importing importing') (as_far own_tasks.0 own_tasks.1) call)
@@ -218,7 +233,7 @@ module _ (laws : StepLaws) (name_of : List ℕ → List ℕ) (lanes : List (List
     pub steps_shown : (shown : Under) → shown ≡ new.lane → (o : Option Made) → o ≡ Some made
         → ((s : State) → StandsFor name_of s books.kept shelf known dir → IsAtTurn s lane shown.progress importing wanted
         → IfSome o (λ m. IsCall name_of s lane shown.progress books.events dir m books'.events books'.kept shelf' known' dir' importing importing'))
-        → (next : Run) × GoesOn name_of lanes run lane true next × IsRun name_of lanes next books' shelf' known' dir' importing' (set seats lane final)
+        → (next : Run) × GoesOn name_of lanes run lane true next × IsRun name_of lanes next books' shelf' known' dir' importing' (set seats lane final) × LeavesBehind name_of run next dir.moves dir'.moves
     steps_shown shown is o some called =
         let call : IsCall name_of run.state lane shown.progress books.events dir made books'.events books'.kept shelf' known' dir' importing importing' =
         subst (λ (m : Option Made). IfSome m (λ x. IsCall name_of run.state lane shown.progress books.events dir x books'.events books'.kept shelf' known' dir' importing importing')) some

@@ -1,6 +1,8 @@
 -- What the proof of a step takes from the crates below.
-use Rattle.std.specs.Prelude.{◌≡◌, ◌≢◌, ℕ, true, false, List, slice_get, Some, None, IfSome, option_map}
+use Rattle.std.specs.Prelude.{◌≡◌, ◌≢◌, ℕ, Bool, true, false, List, ◌++◌, slice_get, Option, Some, None, IfSome, option_map}
 use Rattle.std.specs.List.{AllByRecursion}
+use Rattle.ix_dir.specs.declared.moves.Move.{Move}
+use Rattle.ix_model.specs.declared.publication.Publication.{Publication}
 use Rattle.ix_model.specs.Units.{Units}
 use Rattle.ix_machine.specs.declared.event.Outcome.{Outcome}
 use Rattle.ix_machine.specs.declared.event.Purpose.TheVariants as purpose
@@ -10,6 +12,10 @@ use Rattle.ix_machine.specs.Needs.{seen_at}
 use Rattle.ix_machine.specs.Run.{MayCall}
 use Rattle.ix_machine.specs.State.{State}
 use Rattle.ix_machine.specs.Step.{Stepped, step}
+use Rattle.ix_stops.specs.OnDisk.{IsOnDisk}
+use Rattle.ix_stops.specs.Prefixes.{LeavesPrefixes}
+use Rattle.ix_stops.specs.Shapes.{syncs}
+use Rattle.ix_library.specs.Growing.{Grows}
 use Rattle.ix_import.specs.Importing.{Importing as Importer}
 use Rattle.ix_lanes.specs.declared.doing.Doing.{Doing}
 use Rattle.ix_lanes.specs.Calls.{next_call, next_turn}
@@ -23,7 +29,8 @@ use Rattle.ix_polls.specs.Following.{IsUnderWay, leaves_import}
 use Rattle.ix_seats.specs.Seated.{Seated}
 use Rattle.ix_seats.specs.Seats.{IsSeat, lacks}
 
--- lanes agree with the state, and each call may be made; what a lane has depends on the mark that it holds; a call is a step, and an event takes its own lane on
+-- lanes agree with the state, and each call may be made; what a lane has depends on the mark that it holds; a call is a step, and an event takes its own lane on; what
+-- steps leave on disk
 pub record StepLaws : Type 0 where
   pub kept : (name_of : List ℕ → List ℕ) (poller : ℕ) (lanes : List (List Task)) (run longer : Run) (lane : ℕ) (flag : Outcome) → AreTasksOf name_of poller lanes
       → LanesAgree poller lanes run → extended name_of lanes run lane flag ≡ Some longer → LanesAgree poller lanes longer
@@ -52,3 +59,7 @@ pub record StepLaws : Type 0 where
       → extended name_of lanes run lane flag ≡ Some longer → lane ≢ other → progress_of longer other tasks ≡ progress_of run other tasks
   pub under_way : (name_of : List ℕ → List ℕ) (s : State) (lane : ℕ) (call : Given) (flag : Outcome) (stepped : Stepped) (importer : Importer) (other : ℕ) (doing : Doing) → leaves_import call ≡ true
       → step name_of s lane call flag ≡ Some stepped → IsUnderWay s other doing importer → IsUnderWay stepped.state other doing importer
+  -- what steps leave they leave together, and no step leaves what stands
+  pub grows : (name_of : List ℕ → List ℕ) (s : State) (lane : ℕ) (given : Given) (flag : Outcome) (stepped : Stepped) → step name_of s lane given flag ≡ Some stepped → Grows s stepped.state
+  pub still : (name_of : List ℕ → List ℕ) (pending : Option ℕ) (publications : List Publication) (moves : List Move) (records units : Bool) → IsOnDisk name_of pending publications moves
+      → LeavesPrefixes name_of publications publications moves (moves ++ syncs records units)

@@ -1,8 +1,9 @@
 //! The replay of a script.
-ghost use Rattle.std.specs.Prelude.{◌≡◌, ◌<◌, ◌^◌, ℕ, List, Err, IfOk, IfErr, IfSome, map, length};
+ghost use Rattle.std.specs.Prelude.{◌≡◌, ◌⊎◌, ◌<◌, ◌^◌, ℕ, List, false, Some, Err, IfOk, IfErr, IfSome, map, length};
 ghost use Rattle.std.specs.List.{AllByRecursion};
 ghost use Rattle.ix_types.specs.Count.{counted};
 ghost use Rattle.ix_types.specs.Name.{IsFileName};
+ghost use Rattle.ix_dir.specs.declared.moves.Move.{Move};
 ghost use Rattle.ix_dir.specs.Crash.{standing};
 ghost use Rattle.ix_lanes.specs.Progress.{begun, settled};
 ghost use Rattle.ix_lanes.specs.Rules.{IsReady};
@@ -10,11 +11,14 @@ ghost use Rattle.ix_machine.specs.Run.{Opening};
 ghost use Rattle.ix_model.specs.Units.{Units};
 ghost use Rattle.ix_opening.specs.Found.{opening_of};
 ghost use Rattle.ix_plan.specs.Keeps.{IsAccepted};
+ghost use Rattle.ix_replay.specs.Left.{HoldsState, IsLeft, LeavesBehind, StopsInOpening, StopsInRun};
 ghost use Rattle.ix_replay.specs.Runs.{CanStep, IsRun};
 ghost use Rattle.ix_replays.specs.Run.{IsReplay, fresh, lanes_of};
 ghost use Rattle.ix_seats.specs.Seated.{Seated};
 ghost use Rattle.ix_seats.specs.Seats.{IsSeat};
 ghost use Rattle.ix_turn_order.specs.Counting.{AreCounted, failures, RoseBy};
+ghost use Rattle.ix_turn_order.specs.Order.{IsWanting};
+ghost use Rattle.ix_turns.specs.Ended.{is_missed};
 
 use crate::runner::Runner;
 use ix_dir::Dir;
@@ -58,12 +62,19 @@ pub fn replay<D: Dir, N: Naming + Drop>(
     requires script { IsAccepted script.now }
     requires naming { (bytes : List ℕ) → IsFileName (N.name_of bytes) }
     ensures replayed { IfSome (D.state dir).moves (λ moves. IfOk result.result (λ transcript. IsReplay N.name_of script.now (opening_of N.name_of (standing moves)) transcript)) }
+    ensures left { IfSome (D.state dir).moves (λ before. IfOk result.result (λ transcript. (replay : IsReplay N.name_of script.now (opening_of N.name_of (standing before)) transcript) × (now : List Move) × ((D.state result.dir).moves ≡ Some now) × IsLeft N.name_of before replay.run now)) }
+    ensures whole { IfSome (D.state dir).moves (λ before. IfOk result.result (λ transcript. AllByRecursion (λ event. is_missed event.outcome ≡ false) transcript.events)) }
     ensures failures { IfOk result.result (λ transcript. RoseBy (failures transcript.events) (D.state dir).faults (D.state result.dir).faults) }
     ensures cause { result.result ≡ Err ReplayError.OpenFault → (D.state result.dir).faults ≡ counted (D.state dir).faults }
+    // A store that couldn't be opened is as the opening left it; one that lacked memory, so or as it stands for some run to which the replay comes.
+    ensures opening { IfSome (D.state dir).moves (λ before. result.result ≡ Err ReplayError.OpenFault → (now : List Move) × ((D.state result.dir).moves ≡ Some now) × StopsInOpening N.name_of before now) }
+    ensures state { result.result ≡ Err ReplayError.OpenFault → D.state result.dir ≡ record (D.state dir) { moves = (D.state result.dir).moves; spare = (D.state result.dir).spare; faults = counted (D.state dir).faults; listings = (D.state result.dir).listings; finds = (D.state result.dir).finds } }
+    ensures wanting { IfSome (D.state dir).moves (λ before. result.result ≡ Err ReplayError.Memory → (now : List Move) × ((D.state result.dir).moves ≡ Some now) × (StopsInOpening N.name_of before now ⊎ StopsInRun N.name_of before script.now now)) }
 {
     ix_allowed::laws::accepted_scripts_are_ready();
     ix_calls::laws::tasks_stay_sound();
     ix_lanes::laws::steps_are_ready();
+    ix_stops::laws::a_crash_leaves_a_prefix();
     let lanes = match lanes_of(alloc, script, &naming) {
         Ok(lanes) => lanes,
         Err(_wanting) => return failed(dir, ReplayError::Memory),
@@ -114,9 +125,17 @@ fn run<D: Dir, N: Naming + Drop>(
     ensures replayed { (opening : Opening) → refused ≡ opening.refused
         → IsRun N.name_of (lanes_of N.name_of script.now) (fresh N.name_of script.now opening) runner.library.ledger runner.library.shelf runner.library.known (D.state runner.library.dir) runner.importer runner.seats.items
         → IfOk result.result (λ transcript. IsReplay N.name_of script.now opening transcript) }
+    ensures left { (opening : Opening) → refused ≡ opening.refused
+        → IsRun N.name_of (lanes_of N.name_of script.now) (fresh N.name_of script.now opening) runner.library.ledger runner.library.shelf runner.library.known (D.state runner.library.dir) runner.importer runner.seats.items
+        → IfOk result.result (λ transcript. (replay : IsReplay N.name_of script.now opening transcript) × HoldsState N.name_of replay.run.state (D.state result.dir).moves
+        × LeavesBehind N.name_of (fresh N.name_of script.now opening) replay.run (D.state runner.library.dir).moves (D.state result.dir).moves) }
+    ensures wanting { (opening : Opening)
+        → IsRun N.name_of (lanes_of N.name_of script.now) (fresh N.name_of script.now opening) runner.library.ledger runner.library.shelf runner.library.known (D.state runner.library.dir) runner.importer runner.seats.items
+        → IfErr result.result (λ e. IsWanting N.name_of (lanes_of N.name_of script.now) (λ run. HoldsState N.name_of run.state (D.state result.dir).moves) (fresh N.name_of script.now opening) script.now.order) }
     ensures counted { IfOk result.result (λ transcript. AreCounted runner.library.ledger.events (D.state runner.library.dir).faults transcript.events (D.state result.dir).faults) }
     ensures memory { IfErr result.result (λ e. e ≡ ReplayError.Memory) }
 {
+    ix_stops::laws::syncs_change_nothing();
     let mut runner = runner;
     let ran = run_script(
         &mut runner,

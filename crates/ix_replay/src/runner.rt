@@ -1,5 +1,5 @@
 //! Lanes that take turns over one library.
-ghost use Rattle.std.specs.Prelude.{◌≡◌, ◌<◌, ℕ, List, [], None, length, map, IfOk, IfErr, OnOk};
+ghost use Rattle.std.specs.Prelude.{◌≡◌, ◌<◌, ℕ, List, [], None, length, map, IfOk, IfErr, OnErr, OnOk};
 ghost use Rattle.std.specs.List.{AllByRecursion};
 ghost use Rattle.ix_allowed.specs.Agree.{AreTasksOf};
 ghost use Rattle.ix_lanes.specs.Progress.{begun};
@@ -12,6 +12,7 @@ ghost use Rattle.ix_model.specs.Units.{Units};
 ghost use Rattle.ix_plan.specs.declared.plan.Script.{Script};
 ghost use Rattle.ix_replays.specs.Run.{Run, fresh, lanes_of};
 ghost use Rattle.ix_replay.specs.Given.{StepLaws};
+ghost use Rattle.ix_replay.specs.Left.{LeavesBehind};
 ghost use Rattle.ix_replay.specs.Runs.{CanStep, IsRun};
 ghost use Rattle.ix_seats.specs.Seats.{IsSeat};
 ghost use Rattle.ix_turn_order.specs.Counting.{AreCounted};
@@ -67,13 +68,17 @@ impl<D: Dir, N: Naming + Drop> Runner<D, N> {
         }
     }
 
-    /// Answers the lane's asks that need no load, and makes its next call. Answers false exactly where the lane has no call left. After an error only `end` may follow.
+    /// Answers the lane's asks that need no load, and makes its next call. Answers false exactly where the lane has no call left. After want of memory
+    /// the library stands for the run as it was, and only `end` may follow.
     pub fn step(&mut self, lane: u32) -> Result<bool, Memory>
         requires lane { lane < length self.old.seats.items }
         requires can { CanStep N.name_of self.old.library.ledger self.old.library.shelf self.old.library.known (D.state self.old.library.dir) self.old.importer self.old.seats.items }
         ensures can { OnOk result (CanStep N.name_of self.new.library.ledger self.new.library.shelf self.new.library.known (D.state self.new.library.dir) self.new.importer self.new.seats.items) }
         ensures step { (lanes : List (List Task)) (run : Run) → IsRun N.name_of lanes run self.old.library.ledger self.old.library.shelf self.old.library.known (D.state self.old.library.dir) self.old.importer self.old.seats.items
-            → IfOk result (λ made. (next : Run) × GoesOn N.name_of lanes run lane made next × IsRun N.name_of lanes next self.new.library.ledger self.new.library.shelf self.new.library.known (D.state self.new.library.dir) self.new.importer self.new.seats.items) }
+            → IfOk result (λ made. (next : Run) × GoesOn N.name_of lanes run lane made next × IsRun N.name_of lanes next self.new.library.ledger self.new.library.shelf self.new.library.known (D.state self.new.library.dir) self.new.importer self.new.seats.items
+            × LeavesBehind N.name_of run next (D.state self.old.library.dir).moves (D.state self.new.library.dir).moves) }
+        ensures wanting { (lanes : List (List Task)) (run : Run) → IsRun N.name_of lanes run self.old.library.ledger self.old.library.shelf self.old.library.known (D.state self.old.library.dir) self.old.importer self.old.seats.items
+            → OnErr result (StandsFor N.name_of run.state self.new.library.ledger.kept self.new.library.shelf self.new.library.known (D.state self.new.library.dir)) }
         ensures counted { IfOk result (λ made. AreCounted self.old.library.ledger.events (D.state self.old.library.dir).faults self.new.library.ledger.events (D.state self.new.library.dir).faults) }
         ensures count { length self.new.seats.items ≡ length self.old.seats.items }
     {
@@ -120,6 +125,10 @@ impl<D: Dir, N: Naming + Drop> Stepper for Runner<D, N> {
 
     ghost stands = { λ r lanes run. IsRun N.name_of lanes run r.library.ledger r.library.shelf r.library.known (D.state r.library.dir) r.importer r.seats.items };
 
+    ghost leaves = { λ first start r run. LeavesBehind N.name_of start run (D.state first.library.dir).moves (D.state r.library.dir).moves };
+
+    ghost wants = { λ r run. StandsFor N.name_of run.state r.library.ledger.kept r.library.shelf r.library.known (D.state r.library.dir) };
+
     ghost can_step = { λ r. CanStep N.name_of r.library.ledger r.library.shelf r.library.known (D.state r.library.dir) r.importer r.seats.items };
 
     ghost events = { λ r. r.library.ledger.events };
@@ -127,6 +136,7 @@ impl<D: Dir, N: Naming + Drop> Stepper for Runner<D, N> {
     ghost faults = { λ r. (D.state r.library.dir).faults };
 
     fn step(&mut self, lane: u32) -> Result<bool, Memory> {
+        ix_library::laws::steps_join();
         ix_turn_order::laws::calls_are_steps();
         ix_turn_order::laws::failures_add_up();
         if (lane as usize) < self.seats.len() {
@@ -149,6 +159,8 @@ fn given()
     ix_replays::laws::an_event_takes_its_own_lane_on();
     ix_turn_order::laws::calls_are_steps();
     ix_turn_order::laws::earlier_marks_stay();
+    ix_library::laws::steps_join();
+    ix_stops::laws::syncs_change_nothing();
 }
 
 /// Each lane in a seat of its own.

@@ -1,9 +1,9 @@
 //! The worked rows: each script's transcript, to the byte.
 use super::*;
-use ix_dir::{Area, MemoryDir};
+use ix_dir::{Area, MemoryDir, Pick};
 use ix_io::MemorySink;
+use ix_library::check_store;
 use ix_plan::Script;
-use ix_replays::Transcript;
 use ix_types::{FileName, Seq, Sha};
 use std::alloc::Global;
 use std::process::Abort;
@@ -387,22 +387,17 @@ fn stored(alloc: Global, rt: &impl Abort, name: &[u8], unit: &str, record: &str)
     dir
 }
 
-/// What the script's run over this directory shows.
-fn run_over(
-    alloc: Global,
-    rt: &impl Abort,
-    dir: MemoryDir,
-    script: &str,
-) -> Result<Transcript, ReplayError> {
+/// The script's run over this directory.
+fn run_over(alloc: Global, rt: &impl Abort, dir: MemoryDir, script: &str) -> Replayed<MemoryDir> {
     laws::names_of_digests_are_file_names();
     let script = Script::read(alloc, script.as_bytes()).expect(rt, "a script");
-    let replayed = replay(alloc, dir, Sha, &script);
-    replayed.result
+    replay(alloc, dir, Sha, &script)
 }
 
 /// Whether the script's run over this directory has this transcript.
 fn replays(alloc: Global, rt: &impl Abort, dir: MemoryDir, script: &str, text: &str) -> bool {
-    let transcript = run_over(alloc, rt, dir, script).expect(rt, "a run");
+    let replayed = run_over(alloc, rt, dir, script);
+    let transcript = replayed.result.expect(rt, "a run");
     let mut sink = MemorySink::new(alloc, 4_096, Seq::of(Vec::new(alloc)));
     write_transcript(alloc, &transcript, &mut sink).is_ok() && sink.written() == text.as_bytes()
 }
@@ -428,6 +423,15 @@ fn refuses(
         SCRIPT_02,
         text,
     )
+}
+
+/// How many units an opening finds in the directory that the run hands back, after a stop. It refuses none.
+fn units_left(alloc: Global, rt: &impl Abort, script: &str, fails: &[u64], pick: Pick) -> usize {
+    let replayed = run_over(alloc, rt, failing(alloc, rt, fails), script);
+    let mut image = replayed.dir.stopped(alloc, pick).expect(rt, "memory");
+    let found = check_store(alloc, &mut image, &Sha).expect(rt, "a look");
+    assert!(rt; found.refused.as_slice().is_empty());
+    found.units.as_slice().len()
 }
 
 #[test]
@@ -473,6 +477,17 @@ fn units_that_are_refused_stand_first(rt: HostRuntime) {
 #[test]
 fn a_store_that_cannot_be_opened_has_no_run(rt: HostRuntime) {
     let alloc = rt.alloc();
-    let result = run_over(alloc, &rt, failing(alloc, &rt, &[1]), SCRIPT_02);
-    assert!(rt; matches!(result, Err(ReplayError::OpenFault)));
+    let replayed = run_over(alloc, &rt, failing(alloc, &rt, &[1]), SCRIPT_02);
+    assert!(rt; matches!(replayed.result, Err(ReplayError::OpenFault)));
+}
+
+#[test]
+fn what_was_published_stands_in_the_directory_behind_a_run(rt: HostRuntime) {
+    let alloc = rt.alloc();
+    assert!(rt; units_left(alloc, &rt, SCRIPT_01, &[], Pick::Oldest) == 1);
+    assert!(rt; units_left(alloc, &rt, SCRIPT_01, &[], Pick::Newest) == 1);
+    assert!(rt; units_left(alloc, &rt, SCRIPT_09, &[10], Pick::Oldest) == 2);
+    assert!(rt; units_left(alloc, &rt, SCRIPT_09, &[10], Pick::Newest) == 2);
+    assert!(rt; units_left(alloc, &rt, SCRIPT_10, &[17, 18], Pick::Oldest) == 1);
+    assert!(rt; units_left(alloc, &rt, SCRIPT_10, &[17, 18], Pick::Nth(1)) == 1);
 }

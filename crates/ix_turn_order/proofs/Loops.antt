@@ -1,5 +1,5 @@
 -- One step more of each loop.
-use Rattle.std.proofs.Common.{◌≡◌, ◌⊎◌, inl, inr, ℕ, ◌+◌, ◌<◌, ◌≤◌, Bool, false, List, [], ◌∷◌, length, map, get_or, drop, refl, sym, ap, ◌∙◌, subst, arith}
+use Rattle.std.proofs.Common.{OnErr, Result, Ok, Err, ◌≡◌, ◌⊎◌, inl, inr, ℕ, ◌+◌, ◌<◌, ◌≤◌, Bool, false, List, [], ◌∷◌, length, map, get_or, drop, refl, sym, ap, ◌∙◌, subst, arith}
 use Rattle.std.proofs.lemmas.List.{drop_all, drop_more}
 use Rattle.ix_lanes.specs.Tasks.{Task, tasks_of}
 use Rattle.ix_replays.specs.Laws.{RunFits}
@@ -7,7 +7,12 @@ use Rattle.ix_machine.specs.Run.{Opening}
 use Rattle.ix_plan.specs.declared.plan.Script.{Script}
 use Rattle.ix_replays.specs.Run.{IsReplay, Run, fresh, has_call, lanes_of, transcript_of}
 use Rattle.ix_turn_order.proofs.Turns.{same_or_not}
-use Rattle.ix_turn_order.specs.Order.{ComesTo, GoesOn, HaveEnded, IsReplaying}
+use Rattle.ix_turn_order.specs.Order.{ComesTo, GoesOn, HaveEnded, IsReplaying, IsWanting}
+
+-- what holds where a call failed
+pub on_err : {A E : Type 0} (r : Result A E) (P : Type 0) → P → OnErr r P
+on_err (Ok a) P p = tt
+on_err (Err e) P p = p
 
 same_or_less : (a b : ℕ) → a < b + 1 → (a ≡ b) ⊎ (a < b)
 same_or_less a b within =
@@ -20,6 +25,17 @@ module _ (name_of : List ℕ → List ℕ) (lanes : List (List Task)) where
   -- from whatever run it stands for, it makes such a step
   abbrev pub Makes : (Run → Type 0) → (Run → Type 0) → ℕ → Bool → Type 0
   Makes Before After lane made = (run : Run) → Before run → (next : Run) × GoesOn name_of lanes run lane made next × After next
+
+  -- a step from what it stands for, with what is left behind
+  pub makes_both : (Stands Left After More : Run → Type 0) (lane : ℕ) (made : Bool)
+      → ((run : Run) → Stands run → Left run → (next : Run) × GoesOn name_of lanes run lane made next × After next × More next)
+      → Makes (λ run. Stands run × Left run) (λ run. After run × More run) lane made
+  makes_both Stands Left After More lane made steps run both = let n = steps run both.0 both.1 in (n.0, n.1, (n.2, n.3))
+
+  -- memory was wanting behind a run to which the replay came
+  pub is_wanting : (Before Wants : Run → Type 0) (start : Run) (whole rest : List ℕ) (count : ℕ) → ((run : Run) → Before run → Wants run) → IsReplaying name_of lanes Before start whole rest count
+      → IsWanting name_of lanes Wants start whole
+  is_wanting Before Wants start whole rest count wants r = record { run = r.run; rest = rest; wants = wants r.run r.keeps; comes = r.comes }
 
   none_before : (run : Run) → HaveEnded name_of lanes run 0
   none_before run lane within = absurd (omega (arith, within))
@@ -95,8 +111,8 @@ script_begins name_of script opening Keeps order same comes keeps = record {
 
 pub script_ends : (name_of : List ℕ → List ℕ) (script : Script) (opening : Opening) (Keeps : Run → Type 0) (count : ℕ) → count ≡ length script.lanes
     → ((run : Run) → ComesTo name_of (lanes_of name_of script) (fresh name_of script opening) script.order run [] → HaveEnded name_of (lanes_of name_of script) run (length script.lanes)
-    → IsReplay name_of script opening (transcript_of name_of script opening run))
+    → (replay : IsReplay name_of script opening (transcript_of name_of script opening run)) × (replay.run ≡ run))
     → IsReplaying name_of (lanes_of name_of script) Keeps (fresh name_of script opening) script.order [] count
-    → (run : Run) × Keeps run × IsReplay name_of script opening (transcript_of name_of script opening run)
+    → (run : Run) × Keeps run × ComesTo name_of (lanes_of name_of script) (fresh name_of script opening) script.order run [] × ((replay : IsReplay name_of script opening (transcript_of name_of script opening run)) × (replay.run ≡ run))
 script_ends name_of script opening Keeps count is law r =
-    (r.run, r.keeps, law r.run r.comes (λ lane within. r.ended lane (omega (arith, is, within))))
+    (r.run, r.keeps, r.comes, law r.run r.comes (λ lane within. r.ended lane (omega (arith, is, within))))

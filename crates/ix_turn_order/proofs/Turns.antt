@@ -138,7 +138,7 @@ flag_shown event = flag_of event.outcome
 pub shown : (name_of : List ℕ → List ℕ) (script : Script) (opening : Opening)
     (flags : (order : List ℕ) (flags : List Outcome) (run : Run) → run_of name_of script opening order flags ≡ Some run → map flag_shown run.events ≡ flags)
     (run : Run) → ComesTo name_of (lanes_of name_of script) (fresh name_of script opening) script.order run [] → HaveEnded name_of (lanes_of name_of script) run (length script.lanes)
-    → IsReplay name_of script opening (transcript_of name_of script opening run)
+    → (replay : IsReplay name_of script opening (transcript_of name_of script opening run)) × (replay.run ≡ run)
 shown name_of script opening flags run c ended =
     let start = fresh name_of script opening in
     let lanes = lanes_of name_of script in
@@ -150,9 +150,10 @@ shown name_of script opening flags run c ended =
     ∙ (ap (λ (fs : List Outcome). run_from name_of lanes start (c.turns ++ []) fs) (sym (append-nil c.flags))
     ∙ (c.runs [] [] ∙ ends name_of lanes run all)) in
     let seen : map flag_shown run.events ≡ c.flags = flags c.turns c.flags run runs in
-    record {
+    let replay : IsReplay name_of script opening (transcript_of name_of script opening run) = record {
       run = run;
       runs = ap (λ (fs : List Outcome). run_of name_of script opening (turns_of name_of script opening fs) fs) seen
           ∙ (ap (λ (ts : List ℕ). run_of name_of script opening ts c.flags) turns ∙ runs);
       shows = refl;
-    }
+    } in
+    (replay, refl)

@@ -30,3 +30,10 @@ module _ (name_of : List ℕ → List ℕ) (lanes : List (List Task)) where
     pub keeps : Keeps run
     pub comes : ComesTo start order run rest
     pub ended : HaveEnded run count
+
+  -- memory was wanting: what is wanted is so of a run to which a replay comes from the start with this order, some of which may be to go
+  pub record IsWanting (Wants : Run → Type 0) (start : Run) (order : List ℕ) : Type 0 where
+    pub run : Run
+    pub rest : List ℕ
+    pub wants : Wants run
+    pub comes : ComesTo start order run rest

@@ -75,11 +75,11 @@ pub fn steps_are_turns()
 }
 
 /// A replay that comes to a run with no order to go and no call left, from the run before its first event, shows what it has: the turns and flags are those that
-/// its events show.
+/// its events show, and the run is that one.
 pub fn replays_end()
     ensures { (name_of : List ℕ → List ℕ) (script : Script) (opening : Opening) (run : Run)
         → ComesTo name_of (lanes_of name_of script) (fresh name_of script opening) script.order run [] → HaveEnded name_of (lanes_of name_of script) run (length script.lanes)
-        → IsReplay name_of script opening (transcript_of name_of script opening run) }
+        → (replay : IsReplay name_of script opening (transcript_of name_of script opening run)) × (replay.run ≡ run) }
 {
     ix_replays::laws::runs_show_their_order_and_flags();
 }

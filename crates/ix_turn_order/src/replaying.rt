@@ -1,11 +1,11 @@
 //! The turns of a script: its own order, and then lane after lane.
-ghost use Rattle.std.specs.Prelude.{◌≡◌, ◌<◌, ◌+◌, ℕ, List, [], length, OnOk};
+ghost use Rattle.std.specs.Prelude.{◌≡◌, ◌⊎◌, ◌<◌, ◌+◌, ℕ, List, [], length, OnErr, OnOk};
 ghost use Rattle.ix_lanes.specs.Tasks.{Task};
 ghost use Rattle.ix_machine.specs.Run.{Opening};
 ghost use Rattle.ix_plan.specs.declared.plan.Script.{Script};
 ghost use Rattle.ix_replays.specs.Run.{IsReplay, Run, fresh, lanes_of, transcript_of};
 ghost use Rattle.ix_turn_order.specs.Counting.{AreCounted};
-ghost use Rattle.ix_turn_order.specs.Order.{IsReplaying};
+ghost use Rattle.ix_turn_order.specs.Order.{ComesTo, IsReplaying, IsWanting};
 
 use crate::laws;
 use crate::stepper::Stepper;
@@ -16,8 +16,12 @@ pub fn run_script<S: Stepper>(stepper: &mut S, order: &[u32], lanes: u32) -> Res
     requires { S.can_step stepper.old }
     ensures can { OnOk result (S.can_step stepper.new) }
     ensures replayed { (script : Script) (opening : Opening) → order.now ≡ script.order → lanes ≡ length script.lanes
-        → S.stands stepper.old (lanes_of S.name_of script) (fresh S.name_of script opening)
-        → OnOk result ((run : Run) × S.stands stepper.new (lanes_of S.name_of script) run × IsReplay S.name_of script opening (transcript_of S.name_of script opening run)) }
+        → S.stands stepper.old (lanes_of S.name_of script) (fresh S.name_of script opening) → S.leaves stepper.old (fresh S.name_of script opening) stepper.old (fresh S.name_of script opening)
+        → OnOk result ((run : Run) × S.stands stepper.new (lanes_of S.name_of script) run × S.leaves stepper.old (fresh S.name_of script opening) stepper.new run
+        × ComesTo S.name_of (lanes_of S.name_of script) (fresh S.name_of script opening) script.order run [] × (replay : IsReplay S.name_of script opening (transcript_of S.name_of script opening run)) × (replay.run ≡ run)) }
+    ensures wanting { (script : Script) (opening : Opening) → order.now ≡ script.order → lanes ≡ length script.lanes
+        → S.stands stepper.old (lanes_of S.name_of script) (fresh S.name_of script opening) → S.leaves stepper.old (fresh S.name_of script opening) stepper.old (fresh S.name_of script opening)
+        → OnErr result (IsWanting S.name_of (lanes_of S.name_of script) (λ run. S.stands stepper.new (lanes_of S.name_of script) run ⊎ S.wants stepper.new run) (fresh S.name_of script opening) script.order) }
     ensures counted { OnOk result (AreCounted (S.events stepper.old) (S.faults stepper.old) (S.events stepper.new) (S.faults stepper.new)) }
 {
     ix_replays::laws::runs_keep_their_marks();
@@ -33,8 +37,10 @@ pub fn run_script<S: Stepper>(stepper: &mut S, order: &[u32], lanes: u32) -> Res
 fn run_order<S: Stepper>(stepper: &mut S, order: &[u32]) -> Result<(), Memory>
     requires { S.can_step stepper.old }
     ensures can { OnOk result (S.can_step stepper.new) }
-    ensures turns { (tasks : List (List Task)) (start : Run) (whole : List ℕ) → IsReplaying S.name_of tasks (S.stands stepper.old tasks) start whole order.now 0
-        → OnOk result (IsReplaying S.name_of tasks (S.stands stepper.new tasks) start whole [] 0) }
+    ensures turns { (first : S) (tasks : List (List Task)) (start : Run) (whole : List ℕ) → IsReplaying S.name_of tasks (λ run. S.stands stepper.old tasks run × S.leaves first start stepper.old run) start whole order.now 0
+        → OnOk result (IsReplaying S.name_of tasks (λ run. S.stands stepper.new tasks run × S.leaves first start stepper.new run) start whole [] 0) }
+    ensures wanting { (first : S) (tasks : List (List Task)) (start : Run) (whole : List ℕ) → IsReplaying S.name_of tasks (λ run. S.stands stepper.old tasks run × S.leaves first start stepper.old run) start whole order.now 0
+        → OnErr result (IsWanting S.name_of tasks (λ run. S.stands stepper.new tasks run ⊎ S.wants stepper.new run) start whole) }
     ensures counted { OnOk result (AreCounted (S.events stepper.old) (S.faults stepper.old) (S.events stepper.new) (S.faults stepper.new)) }
 {
     laws::steps_are_turns();
@@ -49,8 +55,10 @@ fn run_order<S: Stepper>(stepper: &mut S, order: &[u32]) -> Result<(), Memory>
 fn run_rest<S: Stepper>(stepper: &mut S, lanes: u32) -> Result<(), Memory>
     requires { S.can_step stepper.old }
     ensures can { OnOk result (S.can_step stepper.new) }
-    ensures turns { (tasks : List (List Task)) (start : Run) (whole : List ℕ) → lanes ≡ length tasks
-        → IsReplaying S.name_of tasks (S.stands stepper.old tasks) start whole [] 0 → OnOk result (IsReplaying S.name_of tasks (S.stands stepper.new tasks) start whole [] lanes) }
+    ensures turns { (first : S) (tasks : List (List Task)) (start : Run) (whole : List ℕ) → lanes ≡ length tasks
+        → IsReplaying S.name_of tasks (λ run. S.stands stepper.old tasks run × S.leaves first start stepper.old run) start whole [] 0 → OnOk result (IsReplaying S.name_of tasks (λ run. S.stands stepper.new tasks run × S.leaves first start stepper.new run) start whole [] lanes) }
+    ensures wanting { (first : S) (tasks : List (List Task)) (start : Run) (whole : List ℕ) → lanes ≡ length tasks
+        → IsReplaying S.name_of tasks (λ run. S.stands stepper.old tasks run × S.leaves first start stepper.old run) start whole [] 0 → OnErr result (IsWanting S.name_of tasks (λ run. S.stands stepper.new tasks run ⊎ S.wants stepper.new run) start whole) }
     ensures counted { OnOk result (AreCounted (S.events stepper.old) (S.faults stepper.old) (S.events stepper.new) (S.faults stepper.new)) }
 {
     laws::failures_add_up();
@@ -64,8 +72,10 @@ fn run_rest<S: Stepper>(stepper: &mut S, lanes: u32) -> Result<(), Memory>
 fn run_lane<S: Stepper>(stepper: &mut S, lane: u32) -> Result<(), Memory>
     requires { S.can_step stepper.old }
     ensures can { OnOk result (S.can_step stepper.new) }
-    ensures turns { (tasks : List (List Task)) (start : Run) (whole : List ℕ) → lane < length tasks
-        → IsReplaying S.name_of tasks (S.stands stepper.old tasks) start whole [] lane → OnOk result (IsReplaying S.name_of tasks (S.stands stepper.new tasks) start whole [] (lane + 1)) }
+    ensures turns { (first : S) (tasks : List (List Task)) (start : Run) (whole : List ℕ) → lane < length tasks
+        → IsReplaying S.name_of tasks (λ run. S.stands stepper.old tasks run × S.leaves first start stepper.old run) start whole [] lane → OnOk result (IsReplaying S.name_of tasks (λ run. S.stands stepper.new tasks run × S.leaves first start stepper.new run) start whole [] (lane + 1)) }
+    ensures wanting { (first : S) (tasks : List (List Task)) (start : Run) (whole : List ℕ) → lane < length tasks
+        → IsReplaying S.name_of tasks (λ run. S.stands stepper.old tasks run × S.leaves first start stepper.old run) start whole [] lane → OnErr result (IsWanting S.name_of tasks (λ run. S.stands stepper.new tasks run ⊎ S.wants stepper.new run) start whole) }
     ensures counted { OnOk result (AreCounted (S.events stepper.old) (S.faults stepper.old) (S.events stepper.new) (S.faults stepper.new)) }
 {
     laws::steps_are_turns();

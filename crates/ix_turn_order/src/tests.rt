@@ -16,6 +16,10 @@ impl Stepper for Counted {
 
     ghost stands = { λ s lanes run. ⊥ };
 
+    ghost leaves = { λ first start s run. Unit {0} };
+
+    ghost wants = { λ s run. Unit {0} };
+
     ghost can_step = { λ s. Unit {0} };
 
     ghost events = { λ s. [] };

@@ -1,5 +1,5 @@
 //! The calls of a build before its unit is published.
-ghost use Rattle.std.specs.Prelude.{◌≡◌, ◌<◌, length, true, None, Some, IfOk, IfSome, IsSome, OnErr};
+ghost use Rattle.std.specs.Prelude.{◌≡◌, ◌<◌, length, true, false, None, Some, IfOk, IfSome, IsSome, OnErr};
 ghost use Rattle.ix_dir.specs.State.{counted_where};
 ghost use Rattle.ix_record.specs.Whole.{IsWhole};
 ghost use Rattle.ix_unit.specs.Value.{IsValidUnit};
@@ -14,7 +14,7 @@ ghost use Rattle.ix_ledger.specs.Registered.{has_opened};
 ghost use Rattle.ix_library.specs.Conditions.{has_put_each};
 ghost use Rattle.ix_library.specs.Endings.{flag_for, with_event, publish_name};
 ghost use Rattle.ix_library.specs.StandsFor.{HasSlots, StandsFor, Takes};
-ghost use Rattle.ix_turns.specs.Ended.{ending, call_failed};
+ghost use Rattle.ix_turns.specs.Ended.{call_failed, ending, is_missed};
 
 use ix_cabinet::StageError;
 use ix_dir::Dir;
@@ -42,6 +42,7 @@ pub fn lease<D: Dir, N: Naming>(
     ensures again { (s : State) → StandsFor N.name_of s library.old.ledger.kept library.old.shelf library.old.known (D.state library.old.dir) → OnErr result (StandsFor N.name_of s library.new.ledger.kept library.new.shelf library.new.known (D.state library.new.dir)) }
     ensures ready { HasSlots library.old.ledger.kept (D.state library.old.dir) → HasSlots library.new.ledger.kept (D.state library.new.dir) }
     ensures told { (D.state library.old.dir).moves ≡ None → (D.state library.new.dir).moves ≡ None }
+    ensures missed { IfOk result (λ how. is_missed how ≡ false) }
 {
     match library.lease(alloc, lane, names) {
         Ok(()) => Ok(Outcome::Done),
@@ -66,6 +67,7 @@ pub fn put<D: Dir, N: Naming>(
     ensures again { (s : State) → StandsFor N.name_of s library.old.ledger.kept library.old.shelf library.old.known (D.state library.old.dir) → OnErr result (StandsFor N.name_of s library.new.ledger.kept library.new.shelf library.new.known (D.state library.new.dir)) }
     ensures ready { HasSlots library.old.ledger.kept (D.state library.old.dir) → HasSlots library.new.ledger.kept (D.state library.new.dir) }
     ensures told { (D.state library.old.dir).moves ≡ None → (D.state library.new.dir).moves ≡ None }
+    ensures missed { IfOk result (λ how. is_missed how ≡ false) }
 {
     match library.put(alloc, lane, body) {
         Ok(Put::Written) => Ok(Outcome::Written),
@@ -93,6 +95,7 @@ pub fn stage<D: Dir, N: Naming>(
     ensures again { (s : State) → StandsFor N.name_of s library.old.ledger.kept library.old.shelf library.old.known (D.state library.old.dir) → OnErr result (StandsFor N.name_of s library.new.ledger.kept library.new.shelf library.new.known (D.state library.new.dir)) }
     ensures ready { HasSlots library.old.ledger.kept (D.state library.old.dir) → HasSlots library.new.ledger.kept (D.state library.new.dir) }
     ensures told { (D.state library.old.dir).moves ≡ None → (D.state library.new.dir).moves ≡ None }
+    ensures missed { IfOk result (λ how. is_missed how ≡ false) }
 {
     match library.stage(alloc, lane, unit) {
         Ok(()) => Ok(Outcome::Done),

@@ -16,7 +16,7 @@ ghost use Rattle.ix_library.specs.Endings.{flag_for, with_event};
 ghost use Rattle.ix_library.specs.LookEndings.{load_flag, scan_flag};
 ghost use Rattle.ix_library.specs.Looks.{MayLoadThere, StandsThere};
 ghost use Rattle.ix_library.specs.StandsFor.{HasSlots, StandsFor, Takes};
-ghost use Rattle.ix_turns.specs.Ended.{call_failed, ending};
+ghost use Rattle.ix_turns.specs.Ended.{call_failed, ending, is_missed};
 ghost use Rattle.ix_turns.specs.Looks.{load_ends, look_failed, scan_ends};
 
 use ix_cabinet::ScanError;
@@ -62,6 +62,7 @@ pub fn scan<D: Dir, N: Naming>(
     ensures again { (s : State) → StandsFor N.name_of s library.old.ledger.kept library.old.shelf library.old.known (D.state library.old.dir) → OnErr result (StandsFor N.name_of s library.new.ledger.kept library.new.shelf library.new.known (D.state library.new.dir)) }
     ensures ready { HasSlots library.old.ledger.kept (D.state library.old.dir) → HasSlots library.new.ledger.kept (D.state library.new.dir) }
     ensures told { (D.state library.old.dir).moves ≡ None → (D.state library.new.dir).moves ≡ None }
+    ensures missed { IfOk result (λ made. is_missed made.outcome ≡ true → (D.state library.old.dir).moves ≡ None) }
 {
     match library.scan(alloc, lane) {
         Ok(scan) => Ok(Scanned {
@@ -106,11 +107,13 @@ pub fn load<D: Dir, N: Naming>(
     ensures step { (s : State) → StandsFor N.name_of s library.old.ledger.kept library.old.shelf library.old.known (D.state library.old.dir) → MayLoad s lane name purpose → IfOk result (λ made. Takes N.name_of s lane (given.Load name purpose) (flag_for made.outcome) made.outcome (D.state library.old.dir) library.new.ledger.kept library.new.shelf library.new.known (D.state library.new.dir)) }
     ensures done { IfOk result (λ made. IfSome made.body (λ body. made.outcome ≡ outcome.Done)) }
     ensures found { IfOk result (λ made. is_some made.body ≡ not (look_failed made.outcome)) }
+    ensures stays { (s : State) → StandsFor N.name_of s library.old.ledger.kept library.old.shelf library.old.known (D.state library.old.dir) → IfOk result (λ made. IfSome made.body (λ body. StandsFor N.name_of s library.new.ledger.kept library.new.shelf library.new.known (D.state library.new.dir))) }
     ensures event { library.new.ledger.events ≡ with_event library.old.ledger.events lane (call.Load name) (load_ends result) }
     ensures cause { (D.state library.new.dir).faults ≡ counted_where (call_failed (load_ends result)) (D.state library.old.dir).faults }
     ensures again { (s : State) → StandsFor N.name_of s library.old.ledger.kept library.old.shelf library.old.known (D.state library.old.dir) → OnErr result (StandsFor N.name_of s library.new.ledger.kept library.new.shelf library.new.known (D.state library.new.dir)) }
     ensures ready { HasSlots library.old.ledger.kept (D.state library.old.dir) → HasSlots library.new.ledger.kept (D.state library.new.dir) }
     ensures told { (D.state library.old.dir).moves ≡ None → (D.state library.new.dir).moves ≡ None }
+    ensures missed { IfOk result (λ made. is_missed made.outcome ≡ true → (D.state library.old.dir).moves ≡ None) }
 {
     match library.load(alloc, lane, name, purpose) {
         Ok(body) => Ok(Loaded {

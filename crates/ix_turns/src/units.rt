@@ -15,7 +15,7 @@ ghost use Rattle.ix_library.specs.Conditions.{has_put_each};
 ghost use Rattle.ix_library.specs.Endings.{collect_ending, flag_for, with_event, publish_name};
 ghost use Rattle.ix_library.specs.StandsFor.{HasSlots, StandsFor, Takes};
 ghost use Rattle.ix_machine.specs.declared.event.Outcome.TheVariants.{Done};
-ghost use Rattle.ix_turns.specs.Ended.{ending, call_failed, says_failed};
+ghost use Rattle.ix_turns.specs.Ended.{call_failed, ending, is_missed, says_failed};
 
 use ix_cabinet::Settled;
 use ix_dir::Dir;
@@ -39,6 +39,7 @@ pub fn publish<D: Dir, N: Naming>(
     ensures again { (s : State) → StandsFor N.name_of s library.old.ledger.kept library.old.shelf library.old.known (D.state library.old.dir) → OnErr result (StandsFor N.name_of s library.new.ledger.kept library.new.shelf library.new.known (D.state library.new.dir)) }
     ensures ready { HasSlots library.new.ledger.kept (D.state library.new.dir) }
     ensures told { (D.state library.old.dir).moves ≡ None → (D.state library.new.dir).moves ≡ None }
+    ensures missed { IfOk result (λ how. is_missed how ≡ false) }
 {
     match library.publish(alloc, lane) {
         Ok(Settled::Synced) => Ok(Outcome::Synced),
@@ -62,6 +63,7 @@ pub fn remove<D: Dir, N: Naming>(
     ensures again { (s : State) → StandsFor N.name_of s library.old.ledger.kept library.old.shelf library.old.known (D.state library.old.dir) → OnErr result (StandsFor N.name_of s library.new.ledger.kept library.new.shelf library.new.known (D.state library.new.dir)) }
     ensures ready { HasSlots library.old.ledger.kept (D.state library.old.dir) → HasSlots library.new.ledger.kept (D.state library.new.dir) }
     ensures told { (D.state library.old.dir).moves ≡ None → (D.state library.new.dir).moves ≡ None }
+    ensures missed { IfOk result (λ how. is_missed how ≡ false) }
 {
     match library.remove(alloc, lane, output) {
         Ok(Settled::Synced) => Ok(Outcome::Synced),
@@ -84,6 +86,7 @@ pub fn collect<D: Dir, N: Naming>(
     ensures again { (s : State) → StandsFor N.name_of s library.old.ledger.kept library.old.shelf library.old.known (D.state library.old.dir) → OnErr result (StandsFor N.name_of s library.new.ledger.kept library.new.shelf library.new.known (D.state library.new.dir)) }
     ensures ready { HasSlots library.old.ledger.kept (D.state library.old.dir) → HasSlots library.new.ledger.kept (D.state library.new.dir) }
     ensures told { (D.state library.old.dir).moves ≡ None → (D.state library.new.dir).moves ≡ None }
+    ensures missed { IfOk result (λ how. is_missed how ≡ false) }
 {
     match library.collect(alloc, lane) {
         Ok(collected) => Ok(collected_as(&collected)),
@@ -97,6 +100,7 @@ fn collected_as(collected: &Collected) -> Outcome
     ensures ending { Some result ≡ collect_ending (Ok collected.now) }
     ensures done { flag_for result ≡ Done }
     ensures failed { says_failed result ≡ false }
+    ensures missed { is_missed result ≡ false }
 {
     match collected {
         Collected::Nothing => Outcome::Nothing,

@@ -25,3 +25,12 @@ returns-clause-stopped c name_of moves lanes image left =
 
 pub returns-clause-moves : goal.returns-clause-moves
 returns-clause-moves c name_of moves = two_syncs name_of (moves ++ opening_moves name_of moves) (c.a_second_opening_finds_the_same.ensures.refused name_of moves)
+
+pub returns-clause-standing_refused : goal.returns-clause-standing_refused
+returns-clause-standing_refused c name_of moves = c.a_second_opening_finds_the_same.ensures.refused name_of moves
+
+pub returns-clause-stopped_refused : goal.returns-clause-stopped_refused
+returns-clause-stopped_refused c name_of moves image left = c.a_crash_after_the_end_leaves_sound_units.ensures.refused name_of moves image left
+
+pub returns-clause-ended_early : goal.returns-clause-ended_early
+returns-clause-ended_early c name_of before now lanes front = begun_alike name_of (standing now) (standing before) lanes (c.a_stop_keeps_sound_units.ensures.standing name_of before now front) (c.opening_leaves_sound_files.ensures.records name_of before now front)

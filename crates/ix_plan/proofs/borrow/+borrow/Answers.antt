@@ -2,8 +2,6 @@ use Rattle.std.proofs.Common.{◌≡◌, [], ◌∷◌, ◌++◌, string_bytes, 
 use Rattle.std.specs.List.Sorted.{IsStrictlySortedBy}
 use Rattle.std.specs.Map.{keys_of}
 use Rattle.std.specs.String.{string_cmp}
-use Rattle.serde_json.specs.Data.{put}
-use Rattle.serde_json.specs.View as owned
 use Rattle.serde_json.proofs.Views.{Entry, put_last}
 use Rattle.ix_plan.specs.View.{members_view}
 use Rattle.ix_plan.proofs.Members.{one_more_member}

@@ -28,3 +28,7 @@ pub returns-in-Err-clause-cause : goal.returns-in-Err-clause-cause
 returns-in-Err-clause-cause g c =
     c.in_ok-made.ensures.cause
     ∙ ap (λ (b : Bool). counted_where b (g.D.Dir.state c.args.library.now.dir).faults) (ap says_failed (there c.in_ok-made.made.body _ c.in-Err.ensures.err c.in_ok-made.ensures.done))
+
+-- a load that is made leaves the state
+pub returns-in-Err-clause-again : goal.returns-in-Err-clause-again
+returns-in-Err-clause-again g c s stands = there c.in_ok-made.made.body _ c.in-Err.ensures.err (c.in_ok-made.ensures.stays s stands)

@@ -14,5 +14,7 @@ returns c = record {
   own = c.calls_are_steps.ensures.own;
   held = c.earlier_marks_stay.ensures.held;
   others = c.an_event_takes_its_own_lane_on.ensures.others;
+  grows = c.steps_join.ensures.grows;
+  still = c.syncs_change_nothing.ensures.leaves;
   under_way = c.other_steps_leave_the_import.ensures.under_way;
 }

@@ -8,7 +8,7 @@ use Rattle.ix_turn_order.proofs.replaying.run_rest.Given as goal
 abbrev pub invariant-loop-lane : goal.invariant-loop-lane
 invariant-loop-lane g l = record {
   can : g.S.Stepper.can_step l.stepper;
-  turns : (tasks : List (List Task)) (start : Run) (whole : List ℕ) → l.lanes ≡ length tasks → IsReplaying g.S.Stepper.name_of tasks (g.S.Stepper.stands l.initial.stepper tasks) start whole [] 0
-      → IsReplaying g.S.Stepper.name_of tasks (g.S.Stepper.stands l.stepper tasks) start whole [] l.lane;
+  turns : (first : _) (tasks : List (List Task)) (start : Run) (whole : List ℕ) → l.lanes ≡ length tasks → IsReplaying g.S.Stepper.name_of tasks (λ (run : Run). g.S.Stepper.stands l.initial.stepper tasks run × g.S.Stepper.leaves first start l.initial.stepper run) start whole [] 0
+      → IsReplaying g.S.Stepper.name_of tasks (λ (run : Run). g.S.Stepper.stands l.stepper tasks run × g.S.Stepper.leaves first start l.stepper run) start whole [] l.lane;
   counted : AreCounted (g.S.Stepper.events l.initial.stepper) (g.S.Stepper.faults l.initial.stepper) (g.S.Stepper.events l.stepper) (g.S.Stepper.faults l.stepper);
 }
