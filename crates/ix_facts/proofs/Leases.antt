@@ -15,7 +15,7 @@ use Rattle.ix_ledger.specs.OfState.{Keeps, staged_under}
 use Rattle.ix_facts.specs.Given.{GuardLaws}
 use Rattle.ix_facts.proofs.Entries.{lane_of_map}
 
-staged_at : (leases : List (Option state.Lease)) (lane : ℕ) → slice_index_or (map staged_under leases) lane None ≡ staged_under (slice_index_or leases lane None)
+pub staged_at : (leases : List (Option state.Lease)) (lane : ℕ) → slice_index_or (map staged_under leases) lane None ≡ staged_under (slice_index_or leases lane None)
 staged_at [] zero = refl
 staged_at [] (suc lane) = refl
 staged_at (o ∷ leases) zero = refl
@@ -33,7 +33,7 @@ protected_alone : GuardLaws → (records : Files) (lease : state.Lease) (name : 
 unfolding need_list_of machine.is_needed alone
 protected_alone laws records lease name = laws.protected (alone records lease) name
 
-leased_same : GuardLaws → (lease : state.Lease) (name : List ℕ) → leases_name name (lease_for lease) ≡ has_name name lease.names
+pub leased_same : GuardLaws → (lease : state.Lease) (name : List ℕ) → leases_name name (lease_for lease) ≡ has_name name lease.names
 leased_same laws lease name = sym (or_false (leases_name name (lease_for lease))) ∙ protected_alone laws [] lease name ∙ or_false (has_name name lease.names)
 
 by_lane : (P : state.Lease → Type 0) (lease : state.Lease) → P lease → (lane : ℕ) → IfSome (slice_index_or (Some lease ∷ []) lane None) P

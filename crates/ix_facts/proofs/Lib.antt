@@ -10,3 +10,5 @@ mod Stamped
 mod Told
 mod Lasting
 mod SinceOpening
+mod Followed
+mod Rows

@@ -1,5 +1,5 @@
 //! What the proofs of this crate take from the crates below.
-ghost use Rattle.ix_facts.specs.Given.{DiskLaws, GuardLaws, StepLaws};
+ghost use Rattle.ix_facts.specs.Given.{DiskLaws, GuardLaws, LedgerLaws, StepLaws};
 
 /// Laws of files, of what a crash leaves, and of the spellings of units.
 pub(crate) fn given_of_disk()
@@ -27,4 +27,11 @@ pub(crate) fn given_of_steps()
     ix_changes::laws::a_step_without_moves_holds();
     ix_library::laws::steps_join();
     ix_machine::laws::acknowledged_changes_are_synced();
+}
+
+/// Laws of what a ledger keeps of the state behind a step.
+pub(crate) fn given_of_ledger()
+    ensures { LedgerLaws }
+{
+    ix_ledger::laws::the_ledger_follows_the_machine();
 }

@@ -8,3 +8,4 @@ pub mod runs;
 pub mod stops;
 #[cfg(test)]
 mod tests;
+pub mod there;
