@@ -6,3 +6,4 @@ mod PollCalls
 mod Puts
 mod Tasks
 mod Turning
+mod Counted

@@ -25,7 +25,7 @@ use Rattle.ix_seats.specs.declared.made.Made.{Made}
 use Rattle.ix_seats.specs.declared.made.Made.TheVariants.{Ended, Loaded, TakenUp, LetGo}
 use Rattle.ix_seats.specs.Made.{after, IsGiven}
 use Rattle.ix_tables.specs.declared.tables.Version.{Version}
-use Rattle.ix_turns.specs.Ended.{says_failed}
+use Rattle.ix_counts.specs.Counting.{is_failure}
 
 -- how the call ended; one that loaded a record is done
 abbrev pub outcome_of : Made → Outcome
@@ -46,12 +46,12 @@ IsNoted earlier lane (Some made) events = (call : Call) × (events ≡ earlier +
 -- whether the answer says that the directory failed
 abbrev pub made_failed : {E : Type 0} → Result (Option Made) E → Bool
 made_failed (Ok None) = false
-made_failed (Ok (Some made)) = says_failed (outcome_of made)
+made_failed (Ok (Some made)) = is_failure (outcome_of made)
 made_failed (Err e) = false
 
 -- the same of a call that was to be made
 abbrev pub turn_failed : {E : Type 0} → Result Made E → Bool
-turn_failed (Ok made) = says_failed (outcome_of made)
+turn_failed (Ok made) = is_failure (outcome_of made)
 turn_failed (Err e) = false
 
 -- the call ended so, and gave the lane nothing

@@ -1,6 +1,7 @@
 //! The turns of a build, each with its test.
-ghost use Rattle.std.specs.Prelude.{◌≡◌, ℕ, List, true, Some, IfOk, OnErr, None};
+ghost use Rattle.std.specs.Prelude.{◌≡◌, ℕ, List, true, Some, IfOk, OnErr, OnOk, None};
 ghost use Rattle.ix_dir.specs.State.{counted_where};
+ghost use Rattle.ix_counts.specs.Counting.{AreCounted, counts_of};
 ghost use Rattle.ix_record.specs.Whole.{IsWhole};
 ghost use Rattle.ix_unit.specs.Value.{IsValidUnit};
 ghost use Rattle.ix_machine.specs.State.{State};
@@ -32,11 +33,13 @@ pub(crate) fn lease<D: Dir, N: Naming>(
     ensures call { (s : State) (p : Progress) → StandsFor N.name_of s library.old.ledger.kept library.old.shelf library.old.known (D.state library.old.dir) → next_turn p ≡ Some (turn.Lease names.now) → IfOk result (λ made. IsMadeBeside N.name_of s number p library.old.ledger.events (D.state library.old.dir) made library.new.ledger.events library.new.ledger.kept library.new.shelf library.new.known (D.state library.new.dir)) }
     ensures event { IfOk result (λ made. IsNoted library.old.ledger.events number (Some made) library.new.ledger.events) }
     ensures cause { (D.state library.new.dir).faults ≡ counted_where (turn_failed result) (D.state library.old.dir).faults }
+    ensures counted { OnOk result (AreCounted library.old.ledger.events (counts_of (D.state library.old.dir)) library.new.ledger.events (counts_of (D.state library.new.dir))) }
     ensures again { (s : State) → StandsFor N.name_of s library.old.ledger.kept library.old.shelf library.old.known (D.state library.old.dir) → OnErr result (StandsFor N.name_of s library.new.ledger.kept library.new.shelf library.new.known (D.state library.new.dir)) }
     ensures ready { HasSlots library.old.ledger.kept (D.state library.old.dir) → HasSlots library.new.ledger.kept (D.state library.new.dir) }
     ensures told { (D.state library.old.dir).moves ≡ None → (D.state library.new.dir).moves ≡ None }
     ensures missed { IfOk result (λ made. is_missed (outcome_of made) ≡ true → (D.state library.old.dir).moves ≡ None) }
 {
+    ix_turns::laws::calls_are_counted();
     if !is_free(library, number) {
         return Err(Memory);
     }
@@ -54,11 +57,13 @@ pub(crate) fn put<D: Dir, N: Naming>(
     ensures call { (s : State) (p : Progress) → StandsFor N.name_of s library.old.ledger.kept library.old.shelf library.old.known (D.state library.old.dir) → next_turn p ≡ Some (turn.Put body.now) → IfOk result (λ made. IsMadeBeside N.name_of s number p library.old.ledger.events (D.state library.old.dir) made library.new.ledger.events library.new.ledger.kept library.new.shelf library.new.known (D.state library.new.dir)) }
     ensures event { IfOk result (λ made. IsNoted library.old.ledger.events number (Some made) library.new.ledger.events) }
     ensures cause { (D.state library.new.dir).faults ≡ counted_where (turn_failed result) (D.state library.old.dir).faults }
+    ensures counted { OnOk result (AreCounted library.old.ledger.events (counts_of (D.state library.old.dir)) library.new.ledger.events (counts_of (D.state library.new.dir))) }
     ensures again { (s : State) → StandsFor N.name_of s library.old.ledger.kept library.old.shelf library.old.known (D.state library.old.dir) → OnErr result (StandsFor N.name_of s library.new.ledger.kept library.new.shelf library.new.known (D.state library.new.dir)) }
     ensures ready { HasSlots library.old.ledger.kept (D.state library.old.dir) → HasSlots library.new.ledger.kept (D.state library.new.dir) }
     ensures told { (D.state library.old.dir).moves ≡ None → (D.state library.new.dir).moves ≡ None }
     ensures missed { IfOk result (λ made. is_missed (outcome_of made) ≡ true → (D.state library.old.dir).moves ≡ None) }
 {
+    ix_turns::laws::calls_are_counted();
     if !may_put(library, number, body.name) {
         return Err(Memory);
     }
@@ -76,11 +81,13 @@ pub(crate) fn stage<D: Dir, N: Naming>(
     ensures call { (s : State) (p : Progress) → StandsFor N.name_of s library.old.ledger.kept library.old.shelf library.old.known (D.state library.old.dir) → next_turn p ≡ Some (turn.Stage unit.now.value) → IfOk result (λ made. IsMadeBeside N.name_of s number p library.old.ledger.events (D.state library.old.dir) made library.new.ledger.events library.new.ledger.kept library.new.shelf library.new.known (D.state library.new.dir)) }
     ensures event { IfOk result (λ made. IsNoted library.old.ledger.events number (Some made) library.new.ledger.events) }
     ensures cause { (D.state library.new.dir).faults ≡ counted_where (turn_failed result) (D.state library.old.dir).faults }
+    ensures counted { OnOk result (AreCounted library.old.ledger.events (counts_of (D.state library.old.dir)) library.new.ledger.events (counts_of (D.state library.new.dir))) }
     ensures again { (s : State) → StandsFor N.name_of s library.old.ledger.kept library.old.shelf library.old.known (D.state library.old.dir) → OnErr result (StandsFor N.name_of s library.new.ledger.kept library.new.shelf library.new.known (D.state library.new.dir)) }
     ensures ready { HasSlots library.old.ledger.kept (D.state library.old.dir) → HasSlots library.new.ledger.kept (D.state library.new.dir) }
     ensures told { (D.state library.old.dir).moves ≡ None → (D.state library.new.dir).moves ≡ None }
     ensures missed { IfOk result (λ made. is_missed (outcome_of made) ≡ true → (D.state library.old.dir).moves ≡ None) }
 {
+    ix_turns::laws::calls_are_counted();
     if !may_stage(library, number, unit) {
         return Err(Memory);
     }
@@ -98,11 +105,13 @@ pub(crate) fn publish<D: Dir, N: Naming>(
     ensures call { (s : State) (p : Progress) → StandsFor N.name_of s library.old.ledger.kept library.old.shelf library.old.known (D.state library.old.dir) → next_turn p ≡ Some turn.Publish → IfOk result (λ made. IsMadeBeside N.name_of s number p library.old.ledger.events (D.state library.old.dir) made library.new.ledger.events library.new.ledger.kept library.new.shelf library.new.known (D.state library.new.dir)) }
     ensures event { IfOk result (λ made. IsNoted library.old.ledger.events number (Some made) library.new.ledger.events) }
     ensures cause { (D.state library.new.dir).faults ≡ counted_where (turn_failed result) (D.state library.old.dir).faults }
+    ensures counted { OnOk result (AreCounted library.old.ledger.events (counts_of (D.state library.old.dir)) library.new.ledger.events (counts_of (D.state library.new.dir))) }
     ensures again { (s : State) → StandsFor N.name_of s library.old.ledger.kept library.old.shelf library.old.known (D.state library.old.dir) → OnErr result (StandsFor N.name_of s library.new.ledger.kept library.new.shelf library.new.known (D.state library.new.dir)) }
     ensures ready { HasSlots library.new.ledger.kept (D.state library.new.dir) }
     ensures told { (D.state library.old.dir).moves ≡ None → (D.state library.new.dir).moves ≡ None }
     ensures missed { IfOk result (λ made. is_missed (outcome_of made) ≡ true → (D.state library.old.dir).moves ≡ None) }
 {
+    ix_turns::laws::calls_are_counted();
     if !has_staged(library, number) {
         return Err(Memory);
     }

@@ -1,6 +1,7 @@
 //! A lane's next call.
-ghost use Rattle.std.specs.Prelude.{◌≡◌, ℕ, true, None, Some, IfOk, IfSome, OnErr, is_some};
+ghost use Rattle.std.specs.Prelude.{◌≡◌, ℕ, true, None, Some, IfOk, IfSome, OnErr, OnOk, is_some};
 ghost use Rattle.ix_dir.specs.State.{counted_where};
+ghost use Rattle.ix_counts.specs.Counting.{AreCounted, counts_of};
 ghost use Rattle.ix_machine.specs.State.{State};
 ghost use Rattle.ix_lanes.specs.Calls.{next_turn};
 ghost use Rattle.ix_lanes.specs.Progress.{Progress, is_asking};
@@ -41,11 +42,13 @@ pub fn make<D: Dir, N: Naming>(
     ensures call { (s : State) → StandsFor N.name_of s library.old.ledger.kept library.old.shelf library.old.known (D.state library.old.dir) → IsAtTurn s number lane.now.progress importer.old lacking → IfOk result (λ made. IfSome made (λ m. IsCall N.name_of s number lane.now.progress library.old.ledger.events (D.state library.old.dir) m library.new.ledger.events library.new.ledger.kept library.new.shelf library.new.known (D.state library.new.dir) importer.old importer.new)) }
     ensures event { IfOk result (λ made. IsNoted library.old.ledger.events number made library.new.ledger.events) }
     ensures cause { (D.state library.new.dir).faults ≡ counted_where (made_failed result) (D.state library.old.dir).faults }
+    ensures counted { OnOk result (AreCounted library.old.ledger.events (counts_of (D.state library.old.dir)) library.new.ledger.events (counts_of (D.state library.new.dir))) }
     ensures again { (s : State) → StandsFor N.name_of s library.old.ledger.kept library.old.shelf library.old.known (D.state library.old.dir) → OnErr result (StandsFor N.name_of s library.new.ledger.kept library.new.shelf library.new.known (D.state library.new.dir)) }
     ensures ready { HasSlots library.new.ledger.kept (D.state library.new.dir) }
     ensures told { (D.state library.old.dir).moves ≡ None → (D.state library.new.dir).moves ≡ None }
     ensures missed { IfOk result (λ made. IfSome made (λ m. is_missed (outcome_of m) ≡ true → (D.state library.old.dir).moves ≡ None)) }
 {
+    ix_counts::laws::counts_add_up();
     match lane.next() {
         None => Ok(None),
         Some(turn) => {
@@ -71,6 +74,7 @@ fn make_turn<D: Dir, N: Naming>(
     ensures call { (s : State) (p : Progress) → StandsFor N.name_of s library.old.ledger.kept library.old.shelf library.old.known (D.state library.old.dir) → next_turn p ≡ Some (turn_of turn.entry) → IsAtTurn s number p importer.old lacking → IfOk result (λ made. IsCall N.name_of s number p library.old.ledger.events (D.state library.old.dir) made library.new.ledger.events library.new.ledger.kept library.new.shelf library.new.known (D.state library.new.dir) importer.old importer.new) }
     ensures event { IfOk result (λ made. IsNoted library.old.ledger.events number (Some made) library.new.ledger.events) }
     ensures cause { (D.state library.new.dir).faults ≡ counted_where (turn_failed result) (D.state library.old.dir).faults }
+    ensures counted { OnOk result (AreCounted library.old.ledger.events (counts_of (D.state library.old.dir)) library.new.ledger.events (counts_of (D.state library.new.dir))) }
     ensures again { (s : State) → StandsFor N.name_of s library.old.ledger.kept library.old.shelf library.old.known (D.state library.old.dir) → OnErr result (StandsFor N.name_of s library.new.ledger.kept library.new.shelf library.new.known (D.state library.new.dir)) }
     ensures ready { HasSlots library.new.ledger.kept (D.state library.new.dir) }
     ensures told { (D.state library.old.dir).moves ≡ None → (D.state library.new.dir).moves ≡ None }

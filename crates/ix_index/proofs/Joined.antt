@@ -118,7 +118,7 @@ module _ {K V : Type 0} {kcmp : K → K → Ordering} {vcmp : V → V → Orderi
     ),
   )
 
-  joined : (k : K) (l r : List (Step K V)) (a b : List (Revision K V)) → AllByRecursion (λ s. is_lt (kcmp s.key k) ≡ true) l → AllByRecursion (λ s. is_lt (kcmp s.key k) ≡ false) r
+  pub joined : (k : K) (l r : List (Step K V)) (a b : List (Revision K V)) → AllByRecursion (λ s. is_lt (kcmp s.key k) ≡ true) l → AllByRecursion (λ s. is_lt (kcmp s.key k) ≡ false) r
       → AreNetOf kcmp vcmp l a → AreNetOf kcmp vcmp r b → AreNetOf kcmp vcmp (l ++ r) (a ++ b)
   joined k l r a b below above first second = record {
     rise = rises k a b first.rise second.rise (first.within (λ x. is_lt (kcmp x k)) true below) (second.within (λ x. is_lt (kcmp x k)) false above);
@@ -204,7 +204,7 @@ module _ {K V : Type 0} {kcmp : K → K → Ordering} {vcmp : V → V → Orderi
 
   -- ---- all parts
 
-  alone : (steps : List (Step K V)) (before after : List (Revision K V)) (net : AreNetBehind kcmp vcmp steps before after) → before ≡ [] → after ≡ net.more
+  pub alone : (steps : List (Step K V)) (before after : List (Revision K V)) (net : AreNetBehind kcmp vcmp steps before after) → before ≡ [] → after ≡ net.more
   alone steps before after net empty = net.is ∙ ap (λ (xs : List (Revision K V)). xs ++ net.more) empty
 
   pub all_rise : (steps : List (Step K V)) (before after : List (Revision K V)) → AreNetBehind kcmp vcmp steps before after → before ≡ [] → AreRevisions kcmp vcmp after

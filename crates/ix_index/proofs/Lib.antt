@@ -11,3 +11,4 @@ pub mod Ends
 pub mod Singles
 pub mod Dealt
 pub mod Joined
+pub mod Made

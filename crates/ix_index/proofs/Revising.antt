@@ -1,5 +1,5 @@
 -- An index before and after revisions.
-use Rattle.std.proofs.Common.{◌≡◌, ℕ, ◌+◌, ◌-◌, ◌<◌, ◌==◌, Bool, true, false, List, [], ◌∷◌, ◌++◌, length, map, Option, Some, None, unwrap_or, if◌then◌else◌, refl, sym, ap, ◌∙◌, arith}
+use Rattle.std.proofs.Common.{◌≡◌, ℕ, ◌+◌, ◌-◌, ◌<◌, ◌==◌, Bool, true, false, List, [], ◌∷◌, ◌++◌, length, map, Option, Some, None, unwrap_or, if◌then◌else◌, refl, sym, ap, ◌∙◌, append_assoc, arith}
 use Rattle.std.specs.List.{AllByRecursion}
 use Rattle.std.specs.declared.cmp.Ordering.{Ordering}
 use Rattle.std.specs.declared.cmp.Ordering.TheVariants.{Less, Equal}
@@ -165,14 +165,15 @@ module _ {K V : Type 0} {kcmp : K → K → Ordering} (vcmp : V → V → Orderi
   recounts_of (r ∷ rs) rise = (rise.0, recounts_of rs rise.1.1)
 
   -- one change more
-  pub made_more : (before : List (K × List (V × ℕ))) (done : List (Revision K V)) (r : Revision K V) (made more : List (Change K (List (V × ℕ)))) (change : Change K (List (V × ℕ)))
-      → (AllByRecursion (λ s. AreRecounts vcmp s.recounts) done → made ≡ map (change_made kcmp vcmp before) done) → (AreRecounts vcmp r.recounts → change ≡ change_made kcmp vcmp before r) → more ≡ made ++ change ∷ []
-      → AllByRecursion (λ s. AreRecounts vcmp s.recounts) (done ++ r ∷ []) → more ≡ map (change_made kcmp vcmp before) (done ++ r ∷ [])
-  made_more before done r made more change so_far here pushed rise =
+  pub made_more : (before : List (K × List (V × ℕ))) (start : List (Change K (List (V × ℕ)))) (done : List (Revision K V)) (r : Revision K V) (made more : List (Change K (List (V × ℕ)))) (change : Change K (List (V × ℕ)))
+      → (AllByRecursion (λ s. AreRecounts vcmp s.recounts) done → made ≡ start ++ map (change_made kcmp vcmp before) done) → (AreRecounts vcmp r.recounts → change ≡ change_made kcmp vcmp before r) → more ≡ made ++ change ∷ []
+      → AllByRecursion (λ s. AreRecounts vcmp s.recounts) (done ++ r ∷ []) → more ≡ start ++ map (change_made kcmp vcmp before) (done ++ r ∷ [])
+  made_more before start done r made more change so_far here pushed rise =
       pushed
       ∙ ap (λ (changes : List (Change K (List (V × ℕ)))). changes ++ change ∷ []) (so_far (all_append_left (λ s. AreRecounts vcmp s.recounts) done (r ∷ []) rise))
-      ∙ ap (λ (c : Change K (List (V × ℕ))). map (change_made kcmp vcmp before) done ++ c ∷ []) (here (all_append_right (λ s. AreRecounts vcmp s.recounts) done (r ∷ []) rise).0)
-      ∙ sym (map-append (change_made kcmp vcmp before) done (r ∷ []))
+      ∙ append_assoc start (map (change_made kcmp vcmp before) done) (change ∷ [])
+      ∙ ap (λ (c : Change K (List (V × ℕ))). start ++ (map (change_made kcmp vcmp before) done ++ c ∷ [])) (here (all_append_right (λ s. AreRecounts vcmp s.recounts) done (r ∷ []) rise).0)
+      ∙ ap (λ (changes : List (Change K (List (V × ℕ)))). start ++ changes) (sym (map-append (change_made kcmp vcmp before) done (r ∷ [])))
 
   -- what a new version of the pages stands for
   pub revised_pages : (before after : List (K × List (V × ℕ))) (changes : List (Change K (List (V × ℕ)))) (rs : List (Revision K V)) → AreRevisions kcmp vcmp rs

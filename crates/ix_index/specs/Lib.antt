@@ -4,3 +4,4 @@ pub mod Recounting
 pub mod Stepping
 pub mod Gathering
 pub mod Dealing
+pub mod Making

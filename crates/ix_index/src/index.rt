@@ -6,9 +6,11 @@ ghost use Rattle.ix_index.specs.Recounting.{all_revised, gained_in, lost_in, Are
 ghost use Rattle.ix_index.specs.Stepping.{gains_of, losses_of};
 
 use crate::item::Item;
+use crate::making::change_all;
+use crate::parts::parted;
 use crate::postings::Postings;
 use crate::revisions::{Revision, changes_of, part_at};
-use crate::steps::{Step, revisions_of};
+use crate::steps::Step;
 use ix_pages::Pages;
 use ix_types::Memory;
 use std::alloc::Global;
@@ -115,7 +117,10 @@ impl<K: Item, V: Item, const P: usize> Index<K, V, P> {
         ensures counts { IfOk result (λ after. (key : K) (value : V) → count_of K.cmp V.cmp after key value
             ≡ count_of K.cmp V.cmp self.now key value + gains_of K.cmp V.cmp steps.items key value - losses_of K.cmp V.cmp steps.items key value) }
     {
-        let revisions = revisions_of(alloc, steps)?;
-        self.with_all(alloc, revisions)
+        let mut changes = Vec::with_capacity(alloc, steps.len())?;
+        let parts = parted(alloc, steps)?;
+        change_all(alloc, &self.pages, parts, &mut changes)?;
+        let pages = self.pages.with_all(alloc, changes)?;
+        Ok(Index { pages })
     }
 }

@@ -4,6 +4,7 @@
 mod index;
 mod item;
 pub mod laws;
+mod making;
 mod parts;
 mod postings;
 mod revisions;

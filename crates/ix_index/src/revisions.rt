@@ -1,5 +1,5 @@
 //! What changes in an index, key by key.
-ghost use Rattle.std.specs.Prelude.{◌≡◌, map, IfOk};
+ghost use Rattle.std.specs.Prelude.{◌≡◌, ◌++◌, map, IfOk, OnOk};
 ghost use Rattle.std.specs.List.{AllByRecursion};
 ghost use Rattle.ix_pages.specs.Paging.{pairs_of};
 ghost use Rattle.ix_index.specs.Counted.{postings_at, IsIndex};
@@ -58,6 +58,24 @@ fn change_of<K: Item, V: Item, const P: usize>(
     Ok(Change::Put(key, after))
 }
 
+/// Puts behind others the changes that revisions make of the pages.
+pub(crate) fn add_changes<K: Item, V: Item, const P: usize>(
+    alloc: Global,
+    pages: &Pages<K, Postings<V>, P>,
+    revisions: Vec<Revision<K, V>>,
+    changes: &mut Vec<Change<K, Postings<V>>>,
+) -> Result<(), Memory>
+    requires { IsIndex K.cmp V.cmp (pairs_of pages.now) }
+    ensures { OnOk result (AllByRecursion (λ revision. AreRecounts V.cmp revision.recounts) revisions.items
+        → changes.new.items ≡ changes.old.items ++ map (change_made K.cmp V.cmp (pairs_of pages.now)) revisions.items) }
+{
+    for revision in revisions {
+        let change = change_of(alloc, pages, revision)?;
+        changes.push(change)?;
+    }
+    Ok(())
+}
+
 /// The changes that revisions make of the pages.
 pub(crate) fn changes_of<K: Item, V: Item, const P: usize>(
     alloc: Global,
@@ -69,9 +87,6 @@ pub(crate) fn changes_of<K: Item, V: Item, const P: usize>(
         → changes.items ≡ map (change_made K.cmp V.cmp (pairs_of pages.now)) revisions.items) }
 {
     let mut changes = Vec::with_capacity(alloc, revisions.len())?;
-    for revision in revisions {
-        let change = change_of(alloc, pages, revision)?;
-        changes.push(change)?;
-    }
+    add_changes(alloc, pages, revisions, &mut changes)?;
     Ok(changes)
 }

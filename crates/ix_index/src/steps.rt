@@ -228,7 +228,7 @@ fn settle_all<K: Drop, V: Drop>(
 }
 
 /// Puts what some steps change behind revisions.
-fn revise<K: Item, V: Item>(
+pub(crate) fn revise<K: Item, V: Item>(
     alloc: Global,
     revisions: &mut Vec<Revision<K, V>>,
     mut steps: Vec<Step<K, V>>,

@@ -1,6 +1,2 @@
-pub mod Places
-pub mod FirstRows
-pub mod PlanRows
-pub mod Sorted
-pub mod Steps
-pub mod Visible
+pub mod Inputs
+pub mod TooMany

@@ -1,26 +1,57 @@
 -- How a call ends, and why.
-use Rattle.std.specs.Prelude.{◌≡◌, ℕ, ◌⊎◌, Bool, true, false, nat_lt, if◌then◌else◌, List, [], ◌∷◌, length, codes, Option, Result, Ok, Err}
-use Rattle.ix_io.specs.Transfer.{AppendsPart}
-use Rattle.ix_script.specs.Value.{ScriptValue}
-use Rattle.ix_script.specs.Reading.{script_of}
-use Rattle.ix_script.specs.declared.script.ScriptRefusal.{ScriptRefusal}
+use Rattle.std.specs.Prelude.{◌≡◌, ◌⊎◌, ℕ, Bool, true, false, List, ◌++◌, codes}
+use Rattle.std.specs.Fmt.{decimal}
+use Rattle.ix_plan.specs.declared.refusal.ScriptRefusal.{ScriptRefusal}
+use Rattle.ix_plan.specs.Texts.{refusal_text}
+use Rattle.ix_check.specs.declared.ending.Ending as check
+use Rattle.ix_plain.specs.declared.ending.Ending as plain
+use Rattle.ix_plain.specs.Ending.{max_input}
 use Rattle.ix_main.specs.declared.ending.Ending.{Ending}
-use Rattle.ix_main.specs.declared.ending.Ending.TheVariants.{Done, BadWords, BadScript, ReadFault, WriteFault, Memory, TooLarge}
-use Rattle.ix_main.specs.Output.{IsOutput, max_input}
-
--- the one form of words
-abbrev pub replay_words : List (List ℕ)
-replay_words = codes "replay" ∷ []
+use Rattle.ix_main.specs.declared.ending.Ending.TheVariants.{Done, BadWords, BadScript, DirFault, ReadFault, WriteFault, Memory, TooLarge, OpenFault, StoreDamaged}
 
 -- the exit status of each ending
 abbrev pub status_of : Ending → ℕ
 status_of Done = 0
 status_of BadWords = 1
 status_of (BadScript refusal) = 2
+status_of DirFault = 3
 status_of ReadFault = 4
 status_of WriteFault = 5
 status_of Memory = 6
 status_of TooLarge = 7
+status_of OpenFault = 8
+status_of StoreDamaged = 9
+
+-- the line that tells of an ending; of the first there is nothing to tell
+abbrev pub line_of : Ending → List ℕ
+line_of Done = codes "done"
+line_of BadWords = codes "usage: ix FOLDER replay, live, check or gen N"
+line_of (BadScript refusal) = codes "bad script: " ++ refusal_text refusal
+line_of DirFault = codes "directory fault during the run"
+line_of ReadFault = codes "input could not be read"
+line_of WriteFault = codes "output could not be written"
+line_of Memory = codes "out of memory"
+line_of TooLarge = codes "input is larger than " ++ decimal max_input ++ codes " bytes"
+line_of OpenFault = codes "the store could not be opened"
+line_of StoreDamaged = codes "a file of the store was lost or damaged during the run"
+
+-- the ending of a replay, as one of a call
+abbrev pub of_replay : plain.Ending → Ending
+of_replay plain.TheVariants.Done = Done
+of_replay (plain.TheVariants.BadScript refusal) = BadScript refusal
+of_replay plain.TheVariants.DirFault = DirFault
+of_replay plain.TheVariants.WriteFault = WriteFault
+of_replay plain.TheVariants.Memory = Memory
+of_replay plain.TheVariants.TooLarge = TooLarge
+of_replay plain.TheVariants.OpenFault = OpenFault
+of_replay plain.TheVariants.StoreDamaged = StoreDamaged
+
+-- the ending of a check, as one of a call
+abbrev pub of_check : check.Ending → Ending
+of_check check.TheVariants.Done = Done
+of_check check.TheVariants.WriteFault = WriteFault
+of_check check.TheVariants.Memory = Memory
+of_check check.TheVariants.OpenFault = OpenFault
 
 -- a read failed
 abbrev pub is_read_fault : Ending → Bool
@@ -32,63 +63,81 @@ abbrev pub is_write_fault : Ending → Bool
 is_write_fault WriteFault = true
 is_write_fault _ = false
 
-abbrev accepted_or_refused : Result ScriptValue ScriptRefusal → Ending
-accepted_or_refused (Ok script) = Done
-accepted_or_refused (Err refusal) = BadScript refusal
+-- the directory failed while the store was opened
+abbrev pub is_open_fault : Ending → Bool
+is_open_fault OpenFault = true
+is_open_fault _ = false
 
--- how the input of these bytes ends, where nothing fails: the size is judged first, and then the script
-abbrev pub ending_for : List ℕ → Ending
-ending_for bytes = if nat_lt max_input (length bytes) then TooLarge else accepted_or_refused (script_of bytes)
+-- the output was written whole
+abbrev pub is_whole : Ending → Bool
+is_whole Done = true
+is_whole BadWords = false
+is_whole (BadScript refusal) = false
+is_whole DirFault = true
+is_whole ReadFault = false
+is_whole WriteFault = false
+is_whole Memory = false
+is_whole TooLarge = false
+is_whole OpenFault = false
+is_whole StoreDamaged = true
 
--- an ending is the one that the bytes decide, or a fault or want of memory stands in its place: that of a write only where
--- there was something to write
-abbrev pub IsEndingFor : Ending → Ending → Type 0
-IsEndingFor decided Done = decided ≡ Done
-IsEndingFor decided BadWords = ⊥
-IsEndingFor decided (BadScript refusal) = decided ≡ BadScript refusal
-IsEndingFor decided ReadFault = Unit {0}
-IsEndingFor decided WriteFault = decided ≡ Done
-IsEndingFor decided Memory = Unit {0}
-IsEndingFor decided TooLarge = decided ≡ TooLarge
+-- the call ended before the store was opened, and not for want of memory
+abbrev pub is_refused : Ending → Bool
+is_refused Done = false
+is_refused BadWords = true
+is_refused (BadScript refusal) = true
+is_refused DirFault = false
+is_refused ReadFault = true
+is_refused WriteFault = false
+is_refused Memory = false
+is_refused TooLarge = true
+is_refused OpenFault = false
+is_refused StoreDamaged = false
 
--- an ending of an input that was read whole and isn't too large
-abbrev pub IsAnswered : Ending → Type 0
-IsAnswered Done = Unit {0}
-IsAnswered BadWords = ⊥
-IsAnswered (BadScript refusal) = Unit {0}
-IsAnswered ReadFault = ⊥
-IsAnswered WriteFault = Unit {0}
-IsAnswered Memory = Unit {0}
-IsAnswered TooLarge = ⊥
+-- the call ended before there was anything to write, and not for want of memory
+abbrev pub is_silent : Ending → Bool
+is_silent OpenFault = true
+is_silent ending = is_refused ending
 
--- endings that come after the source was read to its end, or past the limit
-abbrev pub IsReadWhole : Ending → Type 0
-IsReadWhole Done = Unit {0}
-IsReadWhole BadWords = ⊥
-IsReadWhole (BadScript refusal) = Unit {0}
-IsReadWhole ReadFault = ⊥
-IsReadWhole WriteFault = Unit {0}
-IsReadWhole Memory = ⊥
-IsReadWhole TooLarge = Unit {0}
+-- the input was read to its end or past the limit
+abbrev pub is_read_whole : Ending → Bool
+is_read_whole Done = true
+is_read_whole BadWords = false
+is_read_whole (BadScript refusal) = true
+is_read_whole DirFault = true
+is_read_whole ReadFault = false
+is_read_whole WriteFault = true
+is_read_whole Memory = false
+is_read_whole TooLarge = true
+is_read_whole OpenFault = true
+is_read_whole StoreDamaged = true
 
--- endings before there is anything to write
-abbrev pub WritesNothing : Ending → Type 0
-WritesNothing Done = ⊥
-WritesNothing BadWords = Unit {0}
-WritesNothing (BadScript refusal) = Unit {0}
-WritesNothing ReadFault = Unit {0}
-WritesNothing WriteFault = ⊥
-WritesNothing Memory = ⊥
-WritesNothing TooLarge = Unit {0}
+-- an ending that may come of what the input's bytes decide: their refusal and no other, or a failed read or want of memory; a script may end in each way else
+abbrev pub MayEnd : plain.Ending → Ending → Type 0
+MayEnd decided Done = decided ≡ plain.TheVariants.Done
+MayEnd decided BadWords = ⊥
+MayEnd decided (BadScript refusal) = decided ≡ plain.TheVariants.BadScript refusal
+MayEnd decided DirFault = decided ≡ plain.TheVariants.Done
+MayEnd decided ReadFault = Unit {0}
+MayEnd decided WriteFault = decided ≡ plain.TheVariants.Done
+MayEnd decided Memory = Unit {0}
+MayEnd decided TooLarge = decided ≡ plain.TheVariants.TooLarge
+MayEnd decided OpenFault = decided ≡ plain.TheVariants.Done
+MayEnd decided StoreDamaged = decided ≡ plain.TheVariants.Done
 
--- endings that may come while the output is written
-abbrev pub IsStopped : Ending → Type 0
-IsStopped ending = (ending ≡ WriteFault) ⊎ (ending ≡ Memory)
+-- an ending that a check may have
+abbrev pub MayCheck : Ending → Type 0
+MayCheck ending = (ending ≡ Done) ⊎ (ending ≡ WriteFault) ⊎ (ending ≡ Memory) ⊎ (ending ≡ OpenFault)
 
--- a front of the output was written, and not all; with want of memory that may be none before there is an output
-abbrev pub WritesFront : Option (List ℕ) → Option (List ℕ) → List ℕ → Type 0
-WritesFront old new bytes = (ending_for bytes ≡ Done) × ((text : List ℕ) × IsOutput bytes text × AppendsPart old new text)
-
-abbrev pub WritesPart : Ending → Option (List ℕ) → Option (List ℕ) → List ℕ → Type 0
-WritesPart Memory old new bytes = (new ≡ old) ⊎ WritesFront old new bytes
-WritesPart _ old new bytes = WritesFront old new bytes
+-- whether lanes ran to their end, in which case there is a transcript; with want of memory they may have
+abbrev pub MayRun : Ending → Bool → Type 0
+MayRun Done ran = ran ≡ true
+MayRun BadWords ran = ran ≡ false
+MayRun (BadScript refusal) ran = ran ≡ false
+MayRun DirFault ran = ran ≡ true
+MayRun ReadFault ran = ran ≡ false
+MayRun WriteFault ran = ran ≡ true
+MayRun Memory ran = Unit {0}
+MayRun TooLarge ran = ran ≡ false
+MayRun OpenFault ran = ran ≡ false
+MayRun StoreDamaged ran = ran ≡ true

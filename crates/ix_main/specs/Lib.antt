@@ -1,4 +1,3 @@
 pub mod Ending
-pub mod Machine
-pub mod Output
-pub mod Plans
+pub mod Input
+pub mod Words

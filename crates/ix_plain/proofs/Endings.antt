@@ -14,7 +14,7 @@ use Rattle.ix_replay.specs.declared.replaying.ReplayError.{ReplayError}
 use Rattle.ix_replays.specs.declared.transcript.Transcript.{Transcript}
 use Rattle.ix_replays.specs.Run.{IsReplay}
 use Rattle.ix_turns.specs.Ended.{is_missed}
-use Rattle.ix_turn_order.specs.Counting.{RoseBy, failures, is_failure}
+use Rattle.ix_counts.specs.Counting.{RoseBy, failures, is_failure}
 use Rattle.ix_plain.specs.declared.ending.Ending.{Ending}
 use Rattle.ix_plain.specs.declared.ending.Ending.TheVariants.{Done, BadScript, DirFault, WriteFault, Memory, TooLarge, OpenFault, StoreDamaged}
 use Rattle.ix_plain.specs.Ending.{MayRun, Stayed, after_events, is_whole, is_write_fault}

@@ -6,7 +6,7 @@ use Rattle.ix_plan.specs.declared.plan.Script.{Script}
 use Rattle.ix_plan.specs.declared.refusal.ScriptRefusal.{ScriptRefusal}
 use Rattle.ix_plan.specs.Reading.{script_of}
 use Rattle.ix_turns.specs.Ended.{is_missed}
-use Rattle.ix_turn_order.specs.Counting.{is_failure}
+use Rattle.ix_counts.specs.Counting.{is_failure}
 use Rattle.ix_plain.specs.declared.ending.Ending.{Ending}
 use Rattle.ix_plain.specs.declared.ending.Ending.TheVariants.{Done, BadScript, DirFault, WriteFault, Memory, TooLarge, OpenFault, StoreDamaged}
 use Rattle.ix_plain.specs.declared.replaying.TheConstants.{MAX_INPUT}

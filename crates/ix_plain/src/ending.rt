@@ -3,7 +3,7 @@ ghost use Rattle.std.specs.Prelude.{◌≡◌, true, false};
 ghost use Rattle.std.specs.List.{list_any};
 ghost use Rattle.ix_plain.specs.Ending.{MayRun, after_events, is_whole, is_write_fault, status_of};
 ghost use Rattle.ix_turns.specs.Ended.{is_missed};
-ghost use Rattle.ix_turn_order.specs.Counting.{is_failure};
+ghost use Rattle.ix_counts.specs.Counting.{is_failure};
 
 use ix_machine::{Event, Outcome};
 use ix_plan::ScriptRefusal;

@@ -3,7 +3,7 @@ ghost use Rattle.std.specs.Prelude.{◌≡◌, ◌⊎◌, List, true, false};
 ghost use Rattle.std.specs.List.{list_any};
 ghost use Rattle.ix_machine.specs.declared.event.Event.{Event};
 ghost use Rattle.ix_turns.specs.Ended.{is_missed};
-ghost use Rattle.ix_turn_order.specs.Counting.{is_failure};
+ghost use Rattle.ix_counts.specs.Counting.{is_failure};
 ghost use Rattle.ix_plain.specs.declared.ending.Ending.{Ending};
 ghost use Rattle.ix_plain.specs.Ending.{MayEnd, after_events, is_refused};
 

@@ -8,4 +8,4 @@ mod replaying;
 mod tests;
 
 pub use ending::Ending;
-pub use replaying::{Ended, MAX_INPUT, replay_bytes};
+pub use replaying::{Ended, MAX_INPUT, replay_bytes, replay_script};

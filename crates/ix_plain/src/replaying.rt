@@ -1,5 +1,5 @@
 //! The replay of a script's bytes: bytes come in, a text goes out, and a status says how it ended.
-ghost use Rattle.std.specs.Prelude.{◌≡◌, ◌≢◌, ◌⊎◌, ◌<◌, ◌≤◌, ℕ, List, true, false, is_some, length, Some, None, Ok, Err, IfOk, IfSome};
+ghost use Rattle.std.specs.Prelude.{◌≡◌, ◌≢◌, ◌⊎◌, ◌<◌, ◌≤◌, ◌+◌, ℕ, List, true, false, is_some, length, Some, None, Ok, Err, IfOk, IfSome};
 ghost use Rattle.std.specs.Io.KnownBytes.{Appends};
 ghost use Rattle.ix_types.specs.Count.{CountsWhere, counted};
 ghost use Rattle.ix_types.specs.Name.{sha_name};
@@ -13,7 +13,7 @@ ghost use Rattle.ix_replays.specs.declared.transcript.Transcript.{Transcript as 
 ghost use Rattle.ix_replays.specs.Run.{IsReplay};
 ghost use Rattle.ix_replays.specs.Text.{transcript_text};
 ghost use Rattle.ix_transcripts.specs.Sending.{WritesFront};
-ghost use Rattle.ix_turn_order.specs.Counting.{RoseBy, failures};
+ghost use Rattle.ix_counts.specs.Counting.{RoseBy, failures, loads, scans};
 ghost use Rattle.ix_plain.specs.Ending.{MayEnd, MayRun, Stayed, after_events, ending_for, is_refused, is_whole, is_write_fault, max_input, status_of};
 ghost use Rattle.ix_plain.specs.Output.{IsReplayOf, Leaves, StopsFor};
 
@@ -64,6 +64,8 @@ pub fn replay_bytes<K: Sink, D: Dir>(alloc: Global, bytes: &[u8], sink: &mut K, 
     ensures open_fault { result.ending ≡ Ending.OpenFault → (D.state result.dir).faults ≡ counted (D.state dir).faults }
     ensures write_fault { CountsWhere (is_write_fault result.ending) (K.faults sink.old) (K.faults sink.new) }
     ensures failures { IfSome result.transcript (λ transcript. RoseBy (failures transcript.events) (D.state dir).faults (D.state result.dir).faults) }
+    ensures finds { IfSome result.transcript (λ transcript. RoseBy (loads transcript.events) (D.state dir).finds (D.state result.dir).finds) }
+    ensures listings { IfSome result.transcript (λ transcript. RoseBy (1 + scans transcript.events) (D.state dir).listings (D.state result.dir).listings) }
 
     // A script over a directory in which no count rose ends in Done or for want of memory; one that doesn't tell its moves may miss a file besides.
     ensures complete { IfSome (D.state dir).moves (λ moves. ending_for bytes.now ≡ Ending.Done → Stayed (D.state dir).faults (D.state result.dir).faults → Stayed (K.faults sink.old) (K.faults sink.new)
@@ -87,7 +89,12 @@ pub fn replay_bytes<K: Sink, D: Dir>(alloc: Global, bytes: &[u8], sink: &mut K, 
 }
 
 /// Replays a script over the directory, and writes the transcript's text.
-fn replay_script<K: Sink, D: Dir>(alloc: Global, script: &Script, sink: &mut K, dir: D) -> Ended<D>
+pub fn replay_script<K: Sink, D: Dir>(
+    alloc: Global,
+    script: &Script,
+    sink: &mut K,
+    dir: D,
+) -> Ended<D>
     requires { IsAccepted script.now }
     ensures status { result.status ≡ status_of result.ending }
     ensures written { is_whole result.ending ≡ true → IfSome result.transcript (λ transcript. Appends (K.contents sink.old) (K.contents sink.new) (transcript_text transcript)) }
@@ -95,6 +102,7 @@ fn replay_script<K: Sink, D: Dir>(alloc: Global, script: &Script, sink: &mut K, 
     ensures nothing { result.transcript ≡ None → K.contents sink.new ≡ K.contents sink.old }
     ensures replayed { (bytes : List ℕ) → script_of bytes ≡ Ok script.now → IfSome (D.state dir).moves (λ moves. IfSome result.transcript (IsReplayOf bytes moves)) }
     ensures left { (bytes : List ℕ) → script_of bytes ≡ Ok script.now → IfSome (D.state dir).moves (λ before. IfSome result.transcript (λ transcript. Leaves bytes before transcript (D.state result.dir).moves)) }
+    ensures replays { IfSome (D.state dir).moves (λ moves. IfSome result.transcript (IsReplay sha_name script.now (opening_of sha_name (standing moves)))) }
     ensures sound { IfSome (D.state dir).moves (λ moves. result.ending ≢ Ending.StoreDamaged) }
     ensures exact { MayEnd Ending.Done result.ending }
     ensures read { is_refused result.ending ≡ false }
@@ -103,6 +111,8 @@ fn replay_script<K: Sink, D: Dir>(alloc: Global, script: &Script, sink: &mut K, 
     ensures open_fault { result.ending ≡ Ending.OpenFault → (D.state result.dir).faults ≡ counted (D.state dir).faults }
     ensures write_fault { CountsWhere (is_write_fault result.ending) (K.faults sink.old) (K.faults sink.new) }
     ensures failures { IfSome result.transcript (λ transcript. RoseBy (failures transcript.events) (D.state dir).faults (D.state result.dir).faults) }
+    ensures finds { IfSome result.transcript (λ transcript. RoseBy (loads transcript.events) (D.state dir).finds (D.state result.dir).finds) }
+    ensures listings { IfSome result.transcript (λ transcript. RoseBy (1 + scans transcript.events) (D.state dir).listings (D.state result.dir).listings) }
     ensures untold { Stayed (D.state dir).faults (D.state result.dir).faults → Stayed (K.faults sink.old) (K.faults sink.new)
         → (result.ending ≡ Ending.Done) ⊎ (result.ending ≡ Ending.Memory) ⊎ (result.ending ≡ Ending.StoreDamaged) }
     ensures stopped { (bytes : List ℕ) → script_of bytes ≡ Ok script.now → result.transcript ≡ None → IfSome (D.state dir).moves (λ before. StopsFor bytes before (D.state result.dir).moves) }

@@ -1,6 +1,7 @@
 //! The turns of a poll, and refreshes.
 ghost use Rattle.std.specs.Prelude.{◌≡◌, ◌<◌, ℕ, length, true, None, Some, IfOk, IsSome, OnOk, OnErr, is_some, option_map};
 ghost use Rattle.ix_dir.specs.State.{counted_where};
+ghost use Rattle.ix_counts.specs.Counting.{AreCounted, counts_of};
 ghost use Rattle.ix_machine.specs.declared.event.Call.TheVariants as call;
 ghost use Rattle.ix_machine.specs.Given as calls;
 ghost use Rattle.ix_machine.specs.State.{State};
@@ -41,12 +42,14 @@ pub fn scan<D: Dir, N: Naming>(
         → IfOk result (λ made. Polls N.name_of s lane p calls.Scan made.outcome (version_of made) (D.state library.old.dir) library.new.ledger.kept library.new.shelf library.new.known (D.state library.new.dir) importer.new) }
     ensures event { IfOk result (λ made. library.new.ledger.events ≡ with_event library.old.ledger.events lane call.Scan (Some made.outcome)) }
     ensures cause { (D.state library.new.dir).faults ≡ counted_where (call_failed (poll_ends result)) (D.state library.old.dir).faults }
+    ensures counted { OnOk result (AreCounted library.old.ledger.events (counts_of (D.state library.old.dir)) library.new.ledger.events (counts_of (D.state library.new.dir))) }
     ensures again { (s : State) → StandsFor N.name_of s library.old.ledger.kept library.old.shelf library.old.known (D.state library.old.dir) → OnErr result (StandsFor N.name_of s library.new.ledger.kept library.new.shelf library.new.known (D.state library.new.dir)) }
     ensures ready { HasSlots library.old.ledger.kept (D.state library.old.dir) → HasSlots library.new.ledger.kept (D.state library.new.dir) }
     ensures told { (D.state library.old.dir).moves ≡ None → (D.state library.new.dir).moves ≡ None }
     ensures missed { IfOk result (λ made. is_missed made.outcome ≡ true → (D.state library.old.dir).moves ≡ None) }
 {
     given();
+    ix_turns::laws::calls_are_counted();
     let made = ix_turns::scan(alloc, library, lane)?;
     let Scanned { outcome, scan } = made;
     follow(importer, scan);
@@ -78,6 +81,7 @@ pub fn import<D: Dir, N: Naming>(
         → IfOk result (λ made. Polls N.name_of s lane p (load_or_install (next_of importer.old)) made.outcome (version_of made) (D.state library.old.dir) library.new.ledger.kept library.new.shelf library.new.known (D.state library.new.dir) importer.new) }
     ensures event { IfOk result (λ made. library.new.ledger.events ≡ with_event library.old.ledger.events lane (import_shows (next_of importer.old)) (Some made.outcome)) }
     ensures cause { (D.state library.new.dir).faults ≡ counted_where (call_failed (poll_ends result)) (D.state library.old.dir).faults }
+    ensures counted { OnOk result (AreCounted library.old.ledger.events (counts_of (D.state library.old.dir)) library.new.ledger.events (counts_of (D.state library.new.dir))) }
     ensures again { (s : State) → StandsFor N.name_of s library.old.ledger.kept library.old.shelf library.old.known (D.state library.old.dir) → OnErr result (StandsFor N.name_of s library.new.ledger.kept library.new.shelf library.new.known (D.state library.new.dir)) }
     ensures ready { HasSlots library.old.ledger.kept (D.state library.old.dir) → HasSlots library.new.ledger.kept (D.state library.new.dir) }
     ensures told { (D.state library.old.dir).moves ≡ None → (D.state library.new.dir).moves ≡ None }
@@ -104,12 +108,14 @@ fn load_new<D: Dir, N: Naming>(
         → IfOk result (λ made. Polls N.name_of s lane p (calls.Load name Purpose.Import) made.outcome (version_of made) (D.state library.old.dir) library.new.ledger.kept library.new.shelf library.new.known (D.state library.new.dir) importer.new) }
     ensures event { IfOk result (λ made. library.new.ledger.events ≡ with_event library.old.ledger.events lane (call.Load name) (Some made.outcome)) }
     ensures cause { (D.state library.new.dir).faults ≡ counted_where (call_failed (poll_ends result)) (D.state library.old.dir).faults }
+    ensures counted { OnOk result (AreCounted library.old.ledger.events (counts_of (D.state library.old.dir)) library.new.ledger.events (counts_of (D.state library.new.dir))) }
     ensures again { (s : State) → StandsFor N.name_of s library.old.ledger.kept library.old.shelf library.old.known (D.state library.old.dir) → OnErr result (StandsFor N.name_of s library.new.ledger.kept library.new.shelf library.new.known (D.state library.new.dir)) }
     ensures ready { HasSlots library.old.ledger.kept (D.state library.old.dir) → HasSlots library.new.ledger.kept (D.state library.new.dir) }
     ensures told { (D.state library.old.dir).moves ≡ None → (D.state library.new.dir).moves ≡ None }
     ensures missed { IfOk result (λ made. is_missed made.outcome ≡ true → (D.state library.old.dir).moves ≡ None) }
 {
     given();
+    ix_turns::laws::calls_are_counted();
     let made = ix_turns::load(alloc, library, lane, name, Purpose::Import)?;
     let Loaded { outcome, body } = made;
     match take_or_close(alloc, importer, name, body) {
@@ -153,12 +159,14 @@ fn install<D: Dir, N: Naming>(
         → IfOk result (λ made. Polls N.name_of s lane p calls.Install made.outcome (version_of made) (D.state library.old.dir) library.new.ledger.kept library.new.shelf library.new.known (D.state library.new.dir) importer.new) }
     ensures event { IfOk result (λ made. library.new.ledger.events ≡ with_event library.old.ledger.events lane call.Install (Some made.outcome)) }
     ensures cause { (D.state library.new.dir).faults ≡ counted_where (call_failed (poll_ends result)) (D.state library.old.dir).faults }
+    ensures counted { OnOk result (AreCounted library.old.ledger.events (counts_of (D.state library.old.dir)) library.new.ledger.events (counts_of (D.state library.new.dir))) }
     ensures again { (s : State) → StandsFor N.name_of s library.old.ledger.kept library.old.shelf library.old.known (D.state library.old.dir) → OnErr result (StandsFor N.name_of s library.new.ledger.kept library.new.shelf library.new.known (D.state library.new.dir)) }
     ensures ready { HasSlots library.old.ledger.kept (D.state library.old.dir) → HasSlots library.new.ledger.kept (D.state library.new.dir) }
     ensures told { (D.state library.old.dir).moves ≡ None → (D.state library.new.dir).moves ≡ None }
     ensures missed { IfOk result (λ made. is_missed made.outcome ≡ true → (D.state library.old.dir).moves ≡ None) }
 {
     given();
+    ix_turns::laws::calls_are_counted();
     if !can_install(library, importer, lane) {
         return Err(Memory);
     }
@@ -189,12 +197,14 @@ pub fn adopt<D: Dir, N: Naming>(
         → IfOk result (λ made. Polls N.name_of s lane p calls.Adopt made.outcome (version_of made) (D.state library.old.dir) library.new.ledger.kept library.new.shelf library.new.known (D.state library.new.dir) importer.now) }
     ensures event { IfOk result (λ made. library.new.ledger.events ≡ with_event library.old.ledger.events lane call.Adopt (Some made.outcome)) }
     ensures cause { (D.state library.new.dir).faults ≡ counted_where (call_failed (poll_ends result)) (D.state library.old.dir).faults }
+    ensures counted { OnOk result (AreCounted library.old.ledger.events (counts_of (D.state library.old.dir)) library.new.ledger.events (counts_of (D.state library.new.dir))) }
     ensures again { (s : State) → StandsFor N.name_of s library.old.ledger.kept library.old.shelf library.old.known (D.state library.old.dir) → OnErr result (StandsFor N.name_of s library.new.ledger.kept library.new.shelf library.new.known (D.state library.new.dir)) }
     ensures ready { HasSlots library.old.ledger.kept (D.state library.old.dir) → HasSlots library.new.ledger.kept (D.state library.new.dir) }
     ensures told { (D.state library.old.dir).moves ≡ None → (D.state library.new.dir).moves ≡ None }
     ensures missed { IfOk result (λ made. is_missed made.outcome ≡ true → (D.state library.old.dir).moves ≡ None) }
 {
     given();
+    ix_turns::laws::calls_are_counted();
     if !library.has_lane(lane) {
         return Err(Memory);
     }

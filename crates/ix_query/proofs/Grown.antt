@@ -6,7 +6,11 @@ use Rattle.std.proofs.lemmas.Grind.{flat_map-append}
 use Rattle.std.proofs.lemmas.List.{map-append, take_more}
 use Rattle.std.proofs.lemmas.Option.{slice_get_within, get_or_from_slice_get}
 use Rattle.std.proofs.lemmas.List.Elements.{filter-append}
+use Rattle.ix_types.specs.declared.row.OccRow.{OccRow}
+use Rattle.ix_record.specs.declared.value.RecordValue.{RecordValue}
+use Rattle.ix_model.specs.Rows.{rows_of_record}
 use Rattle.ix_model.proofs.Door.{filter_map_more}
+use Rattle.ix_needs.specs.Chosen.{rows_at}
 
 module _ {X Y : Type 0} (f : X → Option Y) (p : Y → Bool) where
   pub chosen_more : (xs : List X) (i : ℕ) (x : X) → i < length xs → x ≡ get_or xs i x → (start before after : List Y) (o : Option Y) → o ≡ f x
@@ -16,6 +20,11 @@ module _ {X Y : Type 0} (f : X → Option Y) (p : Y → Bool) where
       ap (filter p) (filter_map_more f xs i x within is) ∙ filter-append p (filter_map f (take i xs)) (option_to_list (f x)) in
       let grouped = append_assoc start (filter p (filter_map f (take i xs))) (filter p (option_to_list (f x))) in
       cc
+
+  -- where none is chosen so far, and not the next
+  pub none_more : (xs : List X) (i : ℕ) (x : X) → i < length xs → x ≡ get_or xs i x → filter p (filter_map f (take i xs)) ≡ [] → filter p (option_to_list (f x)) ≡ []
+      → filter p (filter_map f (take (i + 1) xs)) ≡ []
+  none_more xs i x within is so_far none = sym (chosen_more xs i x within is [] [] [] (f x) refl (sym so_far) (sym none))
 
   -- whether any is chosen of what a function gives
   pub any-filter_map : (xs : List X) → list_any p (filter_map f xs) ≡ list_any (λ x. option_map_or p (f x) false) xs
@@ -83,3 +92,15 @@ module _ {E B : Type 0} (says : E → List B) (p : E → Bool) where
       ∙ (ap (flat_map says) (filter-append p (take k xs) (x ∷ []))
       ∙ (flat_map-append says (filter p (take k xs)) (filter p (x ∷ [])) ∙ ap (λ (bs : List B). flat_map says (filter p (take k xs)) ++ bs) last)) in
       grown ∙ (ap (λ (bs : List B). bs ++ (if passes then says x else [])) so_far ∙ sym all)
+
+-- lists that are all empty
+pub nothing_in_each : {A B : Type 0} (says : A → List B) (xs : List A) → ((x : A) → says x ≡ []) → flat_map says xs ≡ []
+nothing_in_each says [] none = refl
+nothing_in_each says (x ∷ xs) none = (λ i. none x i ++ flat_map says xs) ∙ nothing_in_each says xs none
+
+-- a record of which no row is chosen, under any path
+pub no_rows : (passes : OccRow → Bool) (paths : List (List ℕ)) (value : RecordValue) (body : Option RecordValue) (out : List OccRow) → body ≡ Some value
+    → ((path : List ℕ) → filter passes (rows_of_record path value) ≡ []) → out ≡ out ++ rows_at passes paths body
+no_rows passes paths value body out is none =
+    let empty : rows_at passes paths body ≡ [] = ap (rows_at passes paths) is ∙ nothing_in_each (λ (path : List ℕ). filter passes (rows_of_record path value)) paths none in
+    sym (append-nil out) ∙ ap (λ (rows : List OccRow). out ++ rows) (sym empty)

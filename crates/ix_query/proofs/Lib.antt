@@ -2,4 +2,5 @@ pub mod Begun
 pub mod Grown
 pub mod Lifted
 pub mod Passed
+pub mod Searched
 pub mod Sorted

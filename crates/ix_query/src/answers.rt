@@ -148,33 +148,12 @@ fn append_defining<L: Lookups>(
     ensures { OnOk result (out.new.items ≡ out.old.items ++ defining_rows usr.now (L.found lookups.now) bodies.now) }
 {
     let before = out.len();
-    append_with_role(alloc, out, usr, Roles::DEFINITION, lookups, bodies)?;
+    let names = lookups.providers(usr);
+    append_loaded::<WithRole, L>(alloc, out, usr, Roles::DEFINITION, names, lookups, bodies)?;
     if out.len() == before {
-        append_with_role(alloc, out, usr, Roles::DECLARATION, lookups, bodies)?;
+        append_loaded::<WithRole, L>(alloc, out, usr, Roles::DECLARATION, names, lookups, bodies)?;
     }
     Ok(())
-}
-
-/// Appends the rows of a USR that have one of the roles.
-fn append_with_role<L: Lookups>(
-    alloc: Global,
-    out: &mut Vec<OccRow>,
-    usr: &Text,
-    mask: u32,
-    lookups: &L,
-    bodies: &Bodies,
-) -> Result<(), Memory>
-    ensures { OnOk result (out.new.items ≡ out.old.items ++ with_role usr.now mask (L.found lookups.now) bodies.now) }
-{
-    append_loaded::<WithRole, L>(
-        alloc,
-        out,
-        usr,
-        mask,
-        lookups.providers(usr),
-        lookups,
-        bodies,
-    )
 }
 
 /// The rows of a USR that have one of the roles.
@@ -188,7 +167,15 @@ fn with_role<L: Lookups>(
     ensures { IfOk result (λ all. all ≡ sorted_rows (with_role usr.now mask (L.found lookups.now) bodies.now)) }
 {
     let mut rows = Vec::new(alloc);
-    append_with_role(alloc, &mut rows, usr, mask, lookups, bodies)?;
+    append_loaded::<WithRole, L>(
+        alloc,
+        &mut rows,
+        usr,
+        mask,
+        lookups.providers(usr),
+        lookups,
+        bodies,
+    )?;
     sorted_rows(alloc, rows)
 }
 

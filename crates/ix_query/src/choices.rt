@@ -32,6 +32,21 @@ pub(crate) trait Choice {
         ensures { result ≡ passes key.now mask (row_with path.now symbols.now occurrence.now symbol.now) };
 }
 
+/// A choice that is the same under each path.
+pub(crate) trait PathlessChoice: Choice {
+    ghost use Rattle.std.specs.Prelude.{ℕ, List};
+
+    /// Whether the row of an occurrence of a symbol would be chosen, whichever path it is under.
+    fn chooses_anywhere(
+        key: &Text,
+        mask: u32,
+        symbols: &[Symbol],
+        occurrence: &Occurrence,
+        symbol: &Symbol,
+    ) -> bool
+        ensures { (path : List ℕ) → result ≡ Self.passes key.now mask (row_with path symbols.now occurrence.now symbol.now) };
+}
+
 /// Of a USR, and has one of the roles.
 pub(crate) struct WithRole;
 
@@ -42,6 +57,18 @@ impl Choice for WithRole {
         key: &Text,
         mask: u32,
         _path: &Text,
+        symbols: &[Symbol],
+        occurrence: &Occurrence,
+        symbol: &Symbol,
+    ) -> bool {
+        WithRole::chooses_anywhere(key, mask, symbols, occurrence, symbol)
+    }
+}
+
+impl PathlessChoice for WithRole {
+    fn chooses_anywhere(
+        key: &Text,
+        mask: u32,
         _symbols: &[Symbol],
         occurrence: &Occurrence,
         symbol: &Symbol,
@@ -62,8 +89,20 @@ impl Choice for Called {
 
     fn chooses(
         key: &Text,
-        _mask: u32,
+        mask: u32,
         _path: &Text,
+        symbols: &[Symbol],
+        occurrence: &Occurrence,
+        symbol: &Symbol,
+    ) -> bool {
+        Called::chooses_anywhere(key, mask, symbols, occurrence, symbol)
+    }
+}
+
+impl PathlessChoice for Called {
+    fn chooses_anywhere(
+        key: &Text,
+        _mask: u32,
         symbols: &[Symbol],
         occurrence: &Occurrence,
         symbol: &Symbol,
@@ -82,6 +121,18 @@ impl Choice for Related {
         key: &Text,
         mask: u32,
         _path: &Text,
+        symbols: &[Symbol],
+        occurrence: &Occurrence,
+        symbol: &Symbol,
+    ) -> bool {
+        Related::chooses_anywhere(key, mask, symbols, occurrence, symbol)
+    }
+}
+
+impl PathlessChoice for Related {
+    fn chooses_anywhere(
+        key: &Text,
+        mask: u32,
         symbols: &[Symbol],
         occurrence: &Occurrence,
         _symbol: &Symbol,

@@ -26,13 +26,13 @@ pub(crate) fn matching<L: Lookups>(
 ) -> Result<Vec<Text>, Memory>
     ensures { IfOk result (λ usrs. usrs.items ≡ matching text.now start end fold (L.found lookups.now)) }
 {
-    let wanted = folded(alloc, fold, text.bytes())?;
+    let wanted = folded(alloc, fold, text)?;
     let mut buffer = Vec::new(alloc);
     let mut usrs = Vec::new(alloc);
     for place in 0..u64::MAX {
         match lookups.name_at(place) {
             Some(name) => {
-                let is_match = has_text(&mut buffer, start, end, fold, &wanted, name.bytes())?;
+                let is_match = has_text(&mut buffer, start, end, fold, &wanted, name)?;
                 append_named(&mut usrs, is_match, name, lookups)?;
             }
             None => return Ok(set_of_texts(usrs)),

@@ -1,22 +1,22 @@
 //! Which names match a pattern, with no copy of a name where letters count as they are.
-ghost use Rattle.std.specs.Prelude.{◌≡◌, ◌<◌, [], map, length, drop, nat_eq, slice_get, Some, IfOk, OnOk};
-ghost use Rattle.std.specs.Option.{option_copied};
-ghost use Rattle.std.specs.List.{starts_with};
+ghost use Rattle.std.specs.Prelude.{◌≡◌, [], map, IfOk, OnOk};
+ghost use Rattle.std.specs.Str.{IsUtf8};
 ghost use Rattle.ix_answers.specs.Pattern.{folded_byte, folded, stands_in, stands_at};
 
-use ix_types::Memory;
+use ix_types::{Memory, Text};
 use std::alloc::Global;
 
 /// The text as it is compared.
-pub(crate) fn folded(alloc: Global, fold: bool, text: &[u8]) -> Result<Vec<u8>, Memory>
-    ensures { IfOk result (λ v. v.items ≡ folded fold text.now) }
+pub(crate) fn folded(alloc: Global, fold: bool, text: &Text) -> Result<Vec<u8>, Memory>
+    ensures value { IfOk result (λ v. v.items ≡ folded fold text.now) }
+    ensures text { IfOk result (λ v. IsUtf8 v.items) }
 {
     if fold {
         let mut bytes = Vec::new(alloc);
-        fold_into(&mut bytes, text)?;
+        fold_into(&mut bytes, text.bytes())?;
         Ok(bytes)
     } else {
-        Ok(Vec::from_slice(alloc, text)?)
+        Ok(Vec::from_slice(alloc, text.bytes())?)
     }
 }
 
@@ -27,15 +27,16 @@ pub(crate) fn has_text(
     end: bool,
     fold: bool,
     text: &[u8],
-    name: &[u8],
+    name: &Text,
 ) -> Result<bool, Memory>
+    requires { IsUtf8 text.now }
     ensures { IfOk result (λ is_match. is_match ≡ stands_at start end text.now (folded fold name.now)) }
 {
     if fold {
-        fold_into(buffer, name)?;
+        fold_into(buffer, name.bytes())?;
         Ok(stands_at(start, end, text, buffer))
     } else {
-        Ok(stands_at(start, end, text, name))
+        Ok(stands_at(start, end, text, name.bytes()))
     }
 }
 
@@ -71,6 +72,8 @@ fn folded_byte(byte: u8) -> u8
 
 /// Whether the text stands in the name: at its start, at its end, with both as all of it.
 fn stands_at(start: bool, end: bool, text: &[u8], name: &[u8]) -> bool
+    requires text { IsUtf8 text.now }
+    requires name { IsUtf8 name.now }
     ensures { result ≡ stands_at start end text.now name.now }
 {
     if start {
@@ -88,35 +91,11 @@ fn stands_at(start: bool, end: bool, text: &[u8], name: &[u8]) -> bool
 
 /// Whether the text stands somewhere in the name.
 fn stands_in(text: &[u8], name: &[u8]) -> bool
+    requires text { IsUtf8 text.now }
+    requires name { IsUtf8 name.now }
     ensures { result ≡ stands_in text.now name.now }
 {
-    match text.first() {
-        Some(first) => stands_behind(*first, text, name),
-        None => true,
-    }
-}
-
-/// The same for a text with this first byte.
-fn stands_behind(first: u8, text: &[u8], name: &[u8]) -> bool
-    requires { slice_get text.now 0 ≡ Some first }
-    ensures { result ≡ stands_in text.now name.now }
-{
-    for at in 0..name.len() {
-        if begins_at(first, text, name, at) {
-            return true;
-        }
-    }
-    false
-}
-
-/// Whether a text with this first byte stands in the name at a place. Most places are told by one byte.
-fn begins_at(first: u8, text: &[u8], name: &[u8], at: usize) -> bool
-    requires first { slice_get text.now 0 ≡ Some first }
-    requires within { at < length name.now }
-    ensures { result ≡ starts_with nat_eq (drop at name.now) text.now }
-{
-    if name[at] != first {
-        return false;
-    }
-    name[at..].starts_with(text)
+    let text = unsafe { str::from_utf8_unchecked(text) };
+    let name = unsafe { str::from_utf8_unchecked(name) };
+    name.contains(text)
 }

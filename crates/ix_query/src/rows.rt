@@ -1,12 +1,12 @@
 //! The rows that are chosen of loaded records.
-ghost use Rattle.std.specs.Prelude.{◌≡◌, ◌++◌, [], ◌∷◌, map, filter, IfOk, OnOk};
+ghost use Rattle.std.specs.Prelude.{◌≡◌, ◌++◌, ℕ, List, false, [], ◌∷◌, map, filter, IfOk, OnOk};
 ghost use Rattle.std.specs.Option.{option_to_list, option_map, option_copied};
 ghost use Rattle.std.specs.List.{flat_map, filter_map};
 ghost use Rattle.ix_model.specs.Rows.{relation_row, row_with, occurrence_row, rows_of_record};
 ghost use Rattle.ix_lookups.specs.Loaded.{body_named};
 ghost use Rattle.ix_needs.specs.Chosen.{rows_at, loaded_rows, rows_under};
 
-use crate::choices::Choice;
+use crate::choices::{Choice, PathlessChoice};
 use ix_lookups::{Bodies, Lookups};
 use ix_model::append_some;
 use ix_record::{Occurrence, RecordValue, Relation, Symbol};
@@ -14,7 +14,7 @@ use ix_types::{FileName, Memory, OccRow, RelRow, Seq, Text};
 use std::alloc::Global;
 
 /// Appends the rows that are chosen of the named records, each under all its paths.
-pub(crate) fn append_loaded<C: Choice, L: Lookups>(
+pub(crate) fn append_loaded<C: PathlessChoice, L: Lookups>(
     alloc: Global,
     out: &mut Vec<OccRow>,
     key: &Text,
@@ -26,7 +26,7 @@ pub(crate) fn append_loaded<C: Choice, L: Lookups>(
     ensures { OnOk result (out.new.items ≡ out.old.items ++ loaded_rows (C.passes key.now mask) names.now (L.found lookups.now) bodies.now) }
 {
     for name in names {
-        append_named::<C>(alloc, out, key, mask, lookups.paths(name), name, bodies)?;
+        append_named::<C, L>(alloc, out, key, mask, name, lookups, bodies)?;
     }
     Ok(())
 }
@@ -49,21 +49,71 @@ pub(crate) fn append_under<C: Choice>(
     Ok(())
 }
 
-/// Appends the rows that are chosen of a record under its paths, if it is loaded.
-fn append_named<C: Choice>(
+/// Appends the rows that are chosen of a record under its paths, if it is loaded. Asks for its paths only where it has such a row.
+fn append_named<C: PathlessChoice, L: Lookups>(
     alloc: Global,
     out: &mut Vec<OccRow>,
     key: &Text,
     mask: u32,
-    paths: &[Text],
     name: &FileName,
+    lookups: &L,
     bodies: &Bodies,
 ) -> Result<(), Memory>
-    ensures { OnOk result (out.new.items ≡ out.old.items ++ rows_at (C.passes key.now mask) paths.now (body_named name.now bodies.now)) }
+    ensures { OnOk result (out.new.items ≡ out.old.items ++ rows_at (C.passes key.now mask) ((L.found lookups.now).paths name.now) (body_named name.now bodies.now)) }
 {
     match bodies.get(name) {
-        Some(body) => append_at_paths::<C>(alloc, out, key, mask, paths, body),
+        Some(body) => {
+            if has_row::<C>(key, mask, body) {
+                append_at_paths::<C>(alloc, out, key, mask, lookups.paths(name), body)
+            } else {
+                Ok(())
+            }
+        }
         None => Ok(()),
+    }
+}
+
+/// Whether an occurrence of the record is chosen. Where none is, the record has no row under any path.
+fn has_row<C: PathlessChoice>(key: &Text, mask: u32, value: &RecordValue) -> bool
+    ensures { result ≡ false → (path : List ℕ) → filter (C.passes key.now mask) (rows_of_record path value.now) ≡ [] }
+{
+    any_chosen::<C>(
+        key,
+        mask,
+        value.symbols.as_slice(),
+        value.occurrences.as_slice(),
+    )
+}
+
+/// Whether one of the occurrences is chosen.
+fn any_chosen<C: PathlessChoice>(
+    key: &Text,
+    mask: u32,
+    symbols: &[Symbol],
+    occurrences: &[Occurrence],
+) -> bool
+    ensures { result ≡ false → (path : List ℕ) → filter (C.passes key.now mask) (filter_map (occurrence_row path symbols.now) occurrences.now) ≡ [] }
+{
+    for occurrence in occurrences {
+        if is_chosen::<C>(key, mask, symbols, occurrence) {
+            return true;
+        }
+    }
+    false
+}
+
+/// Whether an occurrence is chosen.
+fn is_chosen<C: PathlessChoice>(
+    key: &Text,
+    mask: u32,
+    symbols: &[Symbol],
+    occurrence: &Occurrence,
+) -> bool
+    ensures { result ≡ false → (path : List ℕ) → filter (C.passes key.now mask) (option_to_list (occurrence_row path symbols.now occurrence.now)) ≡ [] }
+{
+    match symbols.get(occurrence.symbol as usize) {
+        Some(symbol) => C::chooses_anywhere(key, mask, symbols, occurrence, symbol),
+        None => false,
     }
 }
 

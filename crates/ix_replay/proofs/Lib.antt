@@ -11,3 +11,4 @@ mod Stepping
 mod Can
 mod Leaving
 mod Stopping
+mod Counted

@@ -1,5 +1,5 @@
 //! The replay of a script.
-ghost use Rattle.std.specs.Prelude.{◌≡◌, ◌⊎◌, ◌<◌, ◌^◌, ℕ, List, false, Some, Err, IfOk, IfErr, IfSome, map, length};
+ghost use Rattle.std.specs.Prelude.{◌≡◌, ◌⊎◌, ◌<◌, ◌+◌, ◌^◌, ℕ, List, false, Some, Err, IfOk, IfErr, IfSome, map, length};
 ghost use Rattle.std.specs.List.{AllByRecursion};
 ghost use Rattle.ix_types.specs.Count.{counted};
 ghost use Rattle.ix_types.specs.Name.{IsFileName};
@@ -16,7 +16,7 @@ ghost use Rattle.ix_replay.specs.Runs.{CanStep, IsRun};
 ghost use Rattle.ix_replays.specs.Run.{IsReplay, fresh, lanes_of};
 ghost use Rattle.ix_seats.specs.Seated.{Seated};
 ghost use Rattle.ix_seats.specs.Seats.{IsSeat};
-ghost use Rattle.ix_turn_order.specs.Counting.{AreCounted, failures, RoseBy};
+ghost use Rattle.ix_counts.specs.Counting.{AreCounted, RoseBy, counts_of, failures, loads, scans};
 ghost use Rattle.ix_turn_order.specs.Order.{IsWanting};
 ghost use Rattle.ix_turns.specs.Ended.{is_missed};
 
@@ -64,7 +64,10 @@ pub fn replay<D: Dir, N: Naming + Drop>(
     ensures replayed { IfSome (D.state dir).moves (λ moves. IfOk result.result (λ transcript. IsReplay N.name_of script.now (opening_of N.name_of (standing moves)) transcript)) }
     ensures left { IfSome (D.state dir).moves (λ before. IfOk result.result (λ transcript. (replay : IsReplay N.name_of script.now (opening_of N.name_of (standing before)) transcript) × (now : List Move) × ((D.state result.dir).moves ≡ Some now) × IsLeft N.name_of before replay.run now)) }
     ensures whole { IfSome (D.state dir).moves (λ before. IfOk result.result (λ transcript. AllByRecursion (λ event. is_missed event.outcome ≡ false) transcript.events)) }
+    // Over each directory: as often as an event says fault or unsynced the directory failed, for each load that says ok it found a record file, and it made one list to open the store and one for each scan that says ok.
     ensures failures { IfOk result.result (λ transcript. RoseBy (failures transcript.events) (D.state dir).faults (D.state result.dir).faults) }
+    ensures finds { IfOk result.result (λ transcript. RoseBy (loads transcript.events) (D.state dir).finds (D.state result.dir).finds) }
+    ensures listings { IfOk result.result (λ transcript. RoseBy (1 + scans transcript.events) (D.state dir).listings (D.state result.dir).listings) }
     ensures cause { result.result ≡ Err ReplayError.OpenFault → (D.state result.dir).faults ≡ counted (D.state dir).faults }
     // A store that couldn't be opened is as the opening left it; one that lacked memory, so or as it stands for some run to which the replay comes.
     ensures opening { IfSome (D.state dir).moves (λ before. result.result ≡ Err ReplayError.OpenFault → (now : List Move) × ((D.state result.dir).moves ≡ Some now) × StopsInOpening N.name_of before now) }
@@ -132,7 +135,7 @@ fn run<D: Dir, N: Naming + Drop>(
     ensures wanting { (opening : Opening)
         → IsRun N.name_of (lanes_of N.name_of script.now) (fresh N.name_of script.now opening) runner.library.ledger runner.library.shelf runner.library.known (D.state runner.library.dir) runner.importer runner.seats.items
         → IfErr result.result (λ e. IsWanting N.name_of (lanes_of N.name_of script.now) (λ run. HoldsState N.name_of run.state (D.state result.dir).moves) (fresh N.name_of script.now opening) script.now.order) }
-    ensures counted { IfOk result.result (λ transcript. AreCounted runner.library.ledger.events (D.state runner.library.dir).faults transcript.events (D.state result.dir).faults) }
+    ensures counted { IfOk result.result (λ transcript. AreCounted runner.library.ledger.events (counts_of (D.state runner.library.dir)) transcript.events (counts_of (D.state result.dir))) }
     ensures memory { IfErr result.result (λ e. e ≡ ReplayError.Memory) }
 {
     ix_stops::laws::syncs_change_nothing();

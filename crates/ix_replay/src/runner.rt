@@ -15,7 +15,7 @@ ghost use Rattle.ix_replay.specs.Given.{StepLaws};
 ghost use Rattle.ix_replay.specs.Left.{LeavesBehind};
 ghost use Rattle.ix_replay.specs.Runs.{CanStep, IsRun};
 ghost use Rattle.ix_seats.specs.Seats.{IsSeat};
-ghost use Rattle.ix_turn_order.specs.Counting.{AreCounted};
+ghost use Rattle.ix_counts.specs.Counting.{AreCounted, counts_of};
 ghost use Rattle.ix_turn_order.specs.Order.{GoesOn};
 
 use ix_calls::make;
@@ -79,12 +79,11 @@ impl<D: Dir, N: Naming + Drop> Runner<D, N> {
             × LeavesBehind N.name_of run next (D.state self.old.library.dir).moves (D.state self.new.library.dir).moves) }
         ensures wanting { (lanes : List (List Task)) (run : Run) → IsRun N.name_of lanes run self.old.library.ledger self.old.library.shelf self.old.library.known (D.state self.old.library.dir) self.old.importer self.old.seats.items
             → OnErr result (StandsFor N.name_of run.state self.new.library.ledger.kept self.new.library.shelf self.new.library.known (D.state self.new.library.dir)) }
-        ensures counted { IfOk result (λ made. AreCounted self.old.library.ledger.events (D.state self.old.library.dir).faults self.new.library.ledger.events (D.state self.new.library.dir).faults) }
+        ensures counted { IfOk result (λ made. AreCounted self.old.library.ledger.events (counts_of (D.state self.old.library.dir)) self.new.library.ledger.events (counts_of (D.state self.new.library.dir))) }
         ensures count { length self.new.seats.items ≡ length self.old.seats.items }
     {
         given();
         ix_calls::laws::tasks_stay_sound();
-        ix_turn_order::laws::failures_add_up();
         let seat = &mut self.seats[lane as usize];
         let lacking = seat.settle(self.alloc)?;
         seat.reserve()?;
@@ -133,12 +132,12 @@ impl<D: Dir, N: Naming + Drop> Stepper for Runner<D, N> {
 
     ghost events = { λ r. r.library.ledger.events };
 
-    ghost faults = { λ r. (D.state r.library.dir).faults };
+    ghost counts = { λ r. counts_of (D.state r.library.dir) };
 
     fn step(&mut self, lane: u32) -> Result<bool, Memory> {
         ix_library::laws::steps_join();
         ix_turn_order::laws::calls_are_steps();
-        ix_turn_order::laws::failures_add_up();
+        ix_counts::laws::counts_add_up();
         if (lane as usize) < self.seats.len() {
             self.step(lane)
         } else {

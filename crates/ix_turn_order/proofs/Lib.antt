@@ -2,4 +2,3 @@ mod Calls
 mod Marks
 mod Turns
 mod Loops
-mod Sums

@@ -13,7 +13,6 @@ ghost use Rattle.ix_lanes.specs.Progress.{after_event};
 ghost use Rattle.ix_plan.specs.declared.plan.Script.{Script};
 ghost use Rattle.ix_replays.specs.Laws.{LanesHold, RunFits};
 ghost use Rattle.ix_replays.specs.Run.{IsReplay, Run, call_of, extended, fresh, has_call, lanes_of, progress_of, transcript_of, with_event};
-ghost use Rattle.ix_turn_order.specs.Counting.{AreCounted, failures, is_failure};
 ghost use Rattle.ix_turn_order.specs.Order.{ComesTo, GoesOn, HaveEnded, IsReplaying};
 
 /// A lane of a run has a call left exactly where it has a task left: an ask in front always lacks a record. So whether it has depends neither on what others
@@ -83,13 +82,3 @@ pub fn replays_end()
 {
     ix_replays::laws::runs_show_their_order_and_flags();
 }
-
-/// What events say of failures adds up, and so does by how much a count of faults rose.
-pub fn failures_add_up()
-    ensures none { (events : List Event) (faults : ℕ) → AreCounted events faults events faults }
-    ensures joined { (first second third : List Event) (before between after : ℕ) → AreCounted first before second between → AreCounted second between third after
-        → AreCounted first before third after }
-    ensures at_least { (earlier events : List Event) (before after : ℕ) (counted : AreCounted earlier before events after) → after < 2 ^ 64 - 1 → before + failures counted.more ≤ after }
-    ensures which { (mark : ℕ) (removed lost damaged : List ℕ) → filter is_failure (Done ∷ Written ∷ Shared ∷ Clash ∷ Synced ∷ Unsynced ∷ NoUnit ∷ At mark ∷ Removed removed ∷ Nothing ∷ Fault ∷ Lost lost ∷ Damaged damaged ∷ []) ≡ Unsynced ∷ Fault ∷ [] }
-    ensures both { (first second : List Event) → failures (first ++ second) ≡ failures first + failures second }
-{}

@@ -4,7 +4,7 @@ ghost use Rattle.ix_lanes.specs.Tasks.{Task};
 ghost use Rattle.ix_machine.specs.Run.{Opening};
 ghost use Rattle.ix_plan.specs.declared.plan.Script.{Script};
 ghost use Rattle.ix_replays.specs.Run.{IsReplay, Run, fresh, lanes_of, transcript_of};
-ghost use Rattle.ix_turn_order.specs.Counting.{AreCounted};
+ghost use Rattle.ix_counts.specs.Counting.{AreCounted};
 ghost use Rattle.ix_turn_order.specs.Order.{ComesTo, IsReplaying, IsWanting};
 
 use crate::laws;
@@ -22,12 +22,12 @@ pub fn run_script<S: Stepper>(stepper: &mut S, order: &[u32], lanes: u32) -> Res
     ensures wanting { (script : Script) (opening : Opening) → order.now ≡ script.order → lanes ≡ length script.lanes
         → S.stands stepper.old (lanes_of S.name_of script) (fresh S.name_of script opening) → S.leaves stepper.old (fresh S.name_of script opening) stepper.old (fresh S.name_of script opening)
         → OnErr result (IsWanting S.name_of (lanes_of S.name_of script) (λ run. S.stands stepper.new (lanes_of S.name_of script) run ⊎ S.wants stepper.new run) (fresh S.name_of script opening) script.order) }
-    ensures counted { OnOk result (AreCounted (S.events stepper.old) (S.faults stepper.old) (S.events stepper.new) (S.faults stepper.new)) }
+    ensures counted { OnOk result (AreCounted (S.events stepper.old) (S.counts stepper.old) (S.events stepper.new) (S.counts stepper.new)) }
 {
     ix_replays::laws::runs_keep_their_marks();
     laws::steps_are_turns();
     laws::replays_end();
-    laws::failures_add_up();
+    ix_counts::laws::counts_add_up();
     run_order(stepper, order)?;
     run_rest(stepper, lanes)?;
     Ok(())
@@ -41,10 +41,10 @@ fn run_order<S: Stepper>(stepper: &mut S, order: &[u32]) -> Result<(), Memory>
         → OnOk result (IsReplaying S.name_of tasks (λ run. S.stands stepper.new tasks run × S.leaves first start stepper.new run) start whole [] 0) }
     ensures wanting { (first : S) (tasks : List (List Task)) (start : Run) (whole : List ℕ) → IsReplaying S.name_of tasks (λ run. S.stands stepper.old tasks run × S.leaves first start stepper.old run) start whole order.now 0
         → OnErr result (IsWanting S.name_of tasks (λ run. S.stands stepper.new tasks run ⊎ S.wants stepper.new run) start whole) }
-    ensures counted { OnOk result (AreCounted (S.events stepper.old) (S.faults stepper.old) (S.events stepper.new) (S.faults stepper.new)) }
+    ensures counted { OnOk result (AreCounted (S.events stepper.old) (S.counts stepper.old) (S.events stepper.new) (S.counts stepper.new)) }
 {
     laws::steps_are_turns();
-    laws::failures_add_up();
+    ix_counts::laws::counts_add_up();
     for lane in order {
         let _made = stepper.step(*lane)?;
     }
@@ -59,9 +59,9 @@ fn run_rest<S: Stepper>(stepper: &mut S, lanes: u32) -> Result<(), Memory>
         → IsReplaying S.name_of tasks (λ run. S.stands stepper.old tasks run × S.leaves first start stepper.old run) start whole [] 0 → OnOk result (IsReplaying S.name_of tasks (λ run. S.stands stepper.new tasks run × S.leaves first start stepper.new run) start whole [] lanes) }
     ensures wanting { (first : S) (tasks : List (List Task)) (start : Run) (whole : List ℕ) → lanes ≡ length tasks
         → IsReplaying S.name_of tasks (λ run. S.stands stepper.old tasks run × S.leaves first start stepper.old run) start whole [] 0 → OnErr result (IsWanting S.name_of tasks (λ run. S.stands stepper.new tasks run ⊎ S.wants stepper.new run) start whole) }
-    ensures counted { OnOk result (AreCounted (S.events stepper.old) (S.faults stepper.old) (S.events stepper.new) (S.faults stepper.new)) }
+    ensures counted { OnOk result (AreCounted (S.events stepper.old) (S.counts stepper.old) (S.events stepper.new) (S.counts stepper.new)) }
 {
-    laws::failures_add_up();
+    ix_counts::laws::counts_add_up();
     for lane in 0..lanes {
         run_lane(stepper, lane)?;
     }
@@ -76,11 +76,11 @@ fn run_lane<S: Stepper>(stepper: &mut S, lane: u32) -> Result<(), Memory>
         → IsReplaying S.name_of tasks (λ run. S.stands stepper.old tasks run × S.leaves first start stepper.old run) start whole [] lane → OnOk result (IsReplaying S.name_of tasks (λ run. S.stands stepper.new tasks run × S.leaves first start stepper.new run) start whole [] (lane + 1)) }
     ensures wanting { (first : S) (tasks : List (List Task)) (start : Run) (whole : List ℕ) → lane < length tasks
         → IsReplaying S.name_of tasks (λ run. S.stands stepper.old tasks run × S.leaves first start stepper.old run) start whole [] lane → OnErr result (IsWanting S.name_of tasks (λ run. S.stands stepper.new tasks run ⊎ S.wants stepper.new run) start whole) }
-    ensures counted { OnOk result (AreCounted (S.events stepper.old) (S.faults stepper.old) (S.events stepper.new) (S.faults stepper.new)) }
+    ensures counted { OnOk result (AreCounted (S.events stepper.old) (S.counts stepper.old) (S.events stepper.new) (S.counts stepper.new)) }
 {
     laws::steps_are_turns();
     laws::ended_lanes_stay_ended();
-    laws::failures_add_up();
+    ix_counts::laws::counts_add_up();
     for _event in 0..u64::MAX {
         let made = stepper.step(lane)?;
         if !made {

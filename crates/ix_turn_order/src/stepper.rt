@@ -3,12 +3,12 @@ ghost use Rattle.std.specs.Prelude.{◌≡◌, ℕ, List, IfOk, OnErr, OnOk};
 ghost use Rattle.ix_lanes.specs.Tasks.{Task};
 ghost use Rattle.ix_machine.specs.declared.event.Event.{Event};
 ghost use Rattle.ix_replays.specs.Run.{Run};
-ghost use Rattle.ix_turn_order.specs.Counting.{AreCounted};
+ghost use Rattle.ix_counts.specs.Counting.{AreCounted, Counts};
 ghost use Rattle.ix_turn_order.specs.Order.{GoesOn};
 
 use ix_types::Memory;
 
-/// Lanes that are stepped, one call at a time. It stands for a run of these lanes, and counts what fails.
+/// Lanes that are stepped, one call at a time. It stands for a run of these lanes, and counts what its directory did.
 pub trait Stepper {
     /// The names of units by their output paths.
     ghost name_of: { List ℕ → List ℕ };
@@ -28,8 +28,8 @@ pub trait Stepper {
     /// The events so far.
     ghost events: { Self → List Event };
 
-    /// How often the directory failed.
-    ghost faults: { Self → ℕ };
+    /// How often the directory failed, found a record file and made a list.
+    ghost counts: { Self → Counts };
 
     /// Makes the lane's next call. Answers false exactly where it has none left.
     fn step(&mut self, lane: u32) -> Result<bool, Memory>
@@ -38,5 +38,5 @@ pub trait Stepper {
         ensures step { (first : Self) (start : Run) (lanes : List (List Task)) (run : Run) → stands self.old lanes run → leaves first start self.old run
             → IfOk result (λ made. (next : Run) × GoesOn name_of lanes run lane made next × stands self.new lanes next × leaves first start self.new next) }
         ensures wanting { (lanes : List (List Task)) (run : Run) → stands self.old lanes run → OnErr result (wants self.new run) }
-        ensures counted { IfOk result (λ made. AreCounted (events self.old) (faults self.old) (events self.new) (faults self.new)) };
+        ensures counted { IfOk result (λ made. AreCounted (events self.old) (counts self.old) (events self.new) (counts self.new)) };
 }

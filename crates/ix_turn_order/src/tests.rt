@@ -24,7 +24,7 @@ impl Stepper for Counted {
 
     ghost events = { λ s. [] };
 
-    ghost faults = { λ s. 0 };
+    ghost counts = { λ s. record { faults = 0; finds = 0; listings = 0 } };
 
     fn step(&mut self, lane: u32) -> Result<bool, Memory> {
         let place = lane as usize;

@@ -1,5 +1,6 @@
 -- How calls of a library end, whichever they are.
 use Rattle.std.specs.Prelude.{Bool, true, false, Option, Some, None, Result, Ok, Err}
+use Rattle.ix_counts.specs.Counting.{is_failure}
 use Rattle.ix_machine.specs.declared.event.Outcome.{Outcome}
 use Rattle.ix_machine.specs.declared.event.Outcome.TheVariants.{Done, Written, Shared, Clash, Synced, Unsynced, NoUnit, At, Removed, Nothing, Fault, Lost, Damaged}
 
@@ -7,22 +8,6 @@ use Rattle.ix_machine.specs.declared.event.Outcome.TheVariants.{Done, Written, S
 abbrev pub ending : {E : Type 0} → Result Outcome E → Option Outcome
 ending (Ok outcome) = Some outcome
 ending (Err e) = None
-
--- whether the outcome says that the directory failed
-abbrev pub says_failed : Outcome → Bool
-says_failed Done = false
-says_failed Written = false
-says_failed Shared = false
-says_failed Clash = false
-says_failed Synced = false
-says_failed Unsynced = true
-says_failed NoUnit = false
-says_failed (At mark) = false
-says_failed (Removed name) = false
-says_failed Nothing = false
-says_failed Fault = true
-says_failed (Lost name) = false
-says_failed (Damaged name) = false
 
 -- whether the outcome says that a file is lost or damaged
 abbrev pub is_missed : Outcome → Bool
@@ -43,4 +28,4 @@ is_missed (Damaged name) = true
 -- whether it ended with an outcome that says that the directory failed
 abbrev pub call_failed : Option Outcome → Bool
 call_failed None = false
-call_failed (Some outcome) = says_failed outcome
+call_failed (Some outcome) = is_failure outcome

@@ -14,6 +14,7 @@ ghost use Rattle.ix_ledger.specs.Registered.{has_opened};
 ghost use Rattle.ix_library.specs.Conditions.{has_put_each};
 ghost use Rattle.ix_library.specs.Endings.{flag_for, with_event, publish_name};
 ghost use Rattle.ix_library.specs.StandsFor.{HasSlots, StandsFor, Takes};
+ghost use Rattle.ix_counts.specs.Counting.{RoseWhere, says_loaded, says_scanned};
 ghost use Rattle.ix_turns.specs.Ended.{call_failed, ending, is_missed};
 
 use ix_cabinet::StageError;
@@ -39,6 +40,8 @@ pub fn lease<D: Dir, N: Naming>(
     ensures step { (s : State) → StandsFor N.name_of s library.old.ledger.kept library.old.shelf library.old.known (D.state library.old.dir) → lease_of s lane ≡ None → IfOk result (λ how. Takes N.name_of s lane (given.Lease names.now) (flag_for how) how (D.state library.old.dir) library.new.ledger.kept library.new.shelf library.new.known (D.state library.new.dir)) }
     ensures event { library.new.ledger.events ≡ with_event library.old.ledger.events lane (call.Lease names.now) (ending result) }
     ensures cause { (D.state library.new.dir).faults ≡ counted_where (call_failed (ending result)) (D.state library.old.dir).faults }
+    ensures finds { RoseWhere (says_loaded (call.Lease names.now) (ending result)) (D.state library.old.dir).finds (D.state library.new.dir).finds }
+    ensures listings { RoseWhere (says_scanned (call.Lease names.now) (ending result)) (D.state library.old.dir).listings (D.state library.new.dir).listings }
     ensures again { (s : State) → StandsFor N.name_of s library.old.ledger.kept library.old.shelf library.old.known (D.state library.old.dir) → OnErr result (StandsFor N.name_of s library.new.ledger.kept library.new.shelf library.new.known (D.state library.new.dir)) }
     ensures ready { HasSlots library.old.ledger.kept (D.state library.old.dir) → HasSlots library.new.ledger.kept (D.state library.new.dir) }
     ensures told { (D.state library.old.dir).moves ≡ None → (D.state library.new.dir).moves ≡ None }
@@ -64,6 +67,8 @@ pub fn put<D: Dir, N: Naming>(
     ensures step { (s : State) → StandsFor N.name_of s library.old.ledger.kept library.old.shelf library.old.known (D.state library.old.dir) → IfOk result (λ how. Takes N.name_of s lane (given.Put body.now) (flag_for how) how (D.state library.old.dir) library.new.ledger.kept library.new.shelf library.new.known (D.state library.new.dir)) }
     ensures event { library.new.ledger.events ≡ with_event library.old.ledger.events lane (call.Put body.now.name) (ending result) }
     ensures cause { (D.state library.new.dir).faults ≡ counted_where (call_failed (ending result)) (D.state library.old.dir).faults }
+    ensures finds { RoseWhere (says_loaded (call.Put body.now.name) (ending result)) (D.state library.old.dir).finds (D.state library.new.dir).finds }
+    ensures listings { RoseWhere (says_scanned (call.Put body.now.name) (ending result)) (D.state library.old.dir).listings (D.state library.new.dir).listings }
     ensures again { (s : State) → StandsFor N.name_of s library.old.ledger.kept library.old.shelf library.old.known (D.state library.old.dir) → OnErr result (StandsFor N.name_of s library.new.ledger.kept library.new.shelf library.new.known (D.state library.new.dir)) }
     ensures ready { HasSlots library.old.ledger.kept (D.state library.old.dir) → HasSlots library.new.ledger.kept (D.state library.new.dir) }
     ensures told { (D.state library.old.dir).moves ≡ None → (D.state library.new.dir).moves ≡ None }
@@ -92,6 +97,8 @@ pub fn stage<D: Dir, N: Naming>(
     ensures step { (s : State) → StandsFor N.name_of s library.old.ledger.kept library.old.shelf library.old.known (D.state library.old.dir) → IfOk result (λ how. Takes N.name_of s lane (given.Stage unit.value) (flag_for how) how (D.state library.old.dir) library.new.ledger.kept library.new.shelf library.new.known (D.state library.new.dir)) }
     ensures event { library.new.ledger.events ≡ with_event library.old.ledger.events lane (call.Stage (N.name_of unit.value.output)) (ending result) }
     ensures cause { (D.state library.new.dir).faults ≡ counted_where (call_failed (ending result)) (D.state library.old.dir).faults }
+    ensures finds { RoseWhere (says_loaded (call.Stage (N.name_of unit.value.output)) (ending result)) (D.state library.old.dir).finds (D.state library.new.dir).finds }
+    ensures listings { RoseWhere (says_scanned (call.Stage (N.name_of unit.value.output)) (ending result)) (D.state library.old.dir).listings (D.state library.new.dir).listings }
     ensures again { (s : State) → StandsFor N.name_of s library.old.ledger.kept library.old.shelf library.old.known (D.state library.old.dir) → OnErr result (StandsFor N.name_of s library.new.ledger.kept library.new.shelf library.new.known (D.state library.new.dir)) }
     ensures ready { HasSlots library.old.ledger.kept (D.state library.old.dir) → HasSlots library.new.ledger.kept (D.state library.new.dir) }
     ensures told { (D.state library.old.dir).moves ≡ None → (D.state library.new.dir).moves ≡ None }

@@ -2,6 +2,7 @@
 #![tactic(auto)]
 
 mod builds;
+pub mod laws;
 mod looks;
 mod units;
 mod versions;

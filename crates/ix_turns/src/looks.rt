@@ -1,5 +1,5 @@
 //! Scans and loads.
-ghost use Rattle.std.specs.Prelude.{◌≡◌, ℕ, List, filter, not, true, None, Some, IfOk, IfSome, OnErr, is_some};
+ghost use Rattle.std.specs.Prelude.{◌≡◌, ℕ, List, filter, not, true, false, None, Some, IfOk, IfSome, OnErr, is_some};
 ghost use Rattle.ix_dir.specs.State.{counted_where};
 ghost use Rattle.ix_model.specs.Units.{needs};
 ghost use Rattle.ix_answers.specs.Batches.{LeadsTo, HaveOneValue};
@@ -16,6 +16,7 @@ ghost use Rattle.ix_library.specs.Endings.{flag_for, with_event};
 ghost use Rattle.ix_library.specs.LookEndings.{load_flag, scan_flag};
 ghost use Rattle.ix_library.specs.Looks.{MayLoadThere, StandsThere};
 ghost use Rattle.ix_library.specs.StandsFor.{HasSlots, StandsFor, Takes};
+ghost use Rattle.ix_counts.specs.Counting.{RoseWhere, says_loaded, says_scanned};
 ghost use Rattle.ix_turns.specs.Ended.{call_failed, ending, is_missed};
 ghost use Rattle.ix_turns.specs.Looks.{load_ends, look_failed, scan_ends};
 
@@ -59,6 +60,8 @@ pub fn scan<D: Dir, N: Naming>(
     ensures found { IfOk result (λ made. is_some made.scan ≡ not (look_failed made.outcome)) }
     ensures event { library.new.ledger.events ≡ with_event library.old.ledger.events lane call.Scan (scan_ends result) }
     ensures cause { (D.state library.new.dir).faults ≡ counted_where (call_failed (scan_ends result)) (D.state library.old.dir).faults }
+    ensures finds { RoseWhere (says_loaded call.Scan (scan_ends result)) (D.state library.old.dir).finds (D.state library.new.dir).finds }
+    ensures listings { RoseWhere (says_scanned call.Scan (scan_ends result)) (D.state library.old.dir).listings (D.state library.new.dir).listings }
     ensures again { (s : State) → StandsFor N.name_of s library.old.ledger.kept library.old.shelf library.old.known (D.state library.old.dir) → OnErr result (StandsFor N.name_of s library.new.ledger.kept library.new.shelf library.new.known (D.state library.new.dir)) }
     ensures ready { HasSlots library.old.ledger.kept (D.state library.old.dir) → HasSlots library.new.ledger.kept (D.state library.new.dir) }
     ensures told { (D.state library.old.dir).moves ≡ None → (D.state library.new.dir).moves ≡ None }
@@ -84,6 +87,7 @@ fn scan_failed_as(error: &ScanError) -> Result<Outcome, Memory>
     ensures ending { ending result ≡ scan_flag error.now }
     ensures failed { IfOk result (λ how. look_failed how ≡ true) }
     ensures memory { OnErr result (error.now ≡ scan_error.Memory) }
+    ensures listings { (before after : ℕ) → RoseWhere false before after → RoseWhere (says_scanned call.Scan (ending result)) before after }
 {
     match error {
         ScanError::Fault => Ok(Outcome::Fault),
@@ -110,6 +114,8 @@ pub fn load<D: Dir, N: Naming>(
     ensures stays { (s : State) → StandsFor N.name_of s library.old.ledger.kept library.old.shelf library.old.known (D.state library.old.dir) → IfOk result (λ made. IfSome made.body (λ body. StandsFor N.name_of s library.new.ledger.kept library.new.shelf library.new.known (D.state library.new.dir))) }
     ensures event { library.new.ledger.events ≡ with_event library.old.ledger.events lane (call.Load name) (load_ends result) }
     ensures cause { (D.state library.new.dir).faults ≡ counted_where (call_failed (load_ends result)) (D.state library.old.dir).faults }
+    ensures finds { RoseWhere (says_loaded (call.Load name) (load_ends result)) (D.state library.old.dir).finds (D.state library.new.dir).finds }
+    ensures listings { RoseWhere (says_scanned (call.Load name) (load_ends result)) (D.state library.old.dir).listings (D.state library.new.dir).listings }
     ensures again { (s : State) → StandsFor N.name_of s library.old.ledger.kept library.old.shelf library.old.known (D.state library.old.dir) → OnErr result (StandsFor N.name_of s library.new.ledger.kept library.new.shelf library.new.known (D.state library.new.dir)) }
     ensures ready { HasSlots library.old.ledger.kept (D.state library.old.dir) → HasSlots library.new.ledger.kept (D.state library.new.dir) }
     ensures told { (D.state library.old.dir).moves ≡ None → (D.state library.new.dir).moves ≡ None }
@@ -135,6 +141,7 @@ fn load_failed_as(error: &LoadError) -> Result<Outcome, Memory>
     ensures ending { ending result ≡ load_flag error.now }
     ensures failed { IfOk result (λ how. look_failed how ≡ true) }
     ensures memory { OnErr result (error.now ≡ load_error.Memory) }
+    ensures finds { (name : List ℕ) (before after : ℕ) → RoseWhere false before after → RoseWhere (says_loaded (call.Load name) (ending result)) before after }
 {
     match error {
         LoadError::Fault => Ok(Outcome::Fault),

@@ -14,8 +14,9 @@ ghost use Rattle.ix_ledger.specs.Registered.{has_opened};
 ghost use Rattle.ix_library.specs.Conditions.{has_put_each};
 ghost use Rattle.ix_library.specs.Endings.{collect_ending, flag_for, with_event, publish_name};
 ghost use Rattle.ix_library.specs.StandsFor.{HasSlots, StandsFor, Takes};
+ghost use Rattle.ix_counts.specs.Counting.{RoseWhere, is_failure, says_loaded, says_scanned};
 ghost use Rattle.ix_machine.specs.declared.event.Outcome.TheVariants.{Done};
-ghost use Rattle.ix_turns.specs.Ended.{call_failed, ending, is_missed, says_failed};
+ghost use Rattle.ix_turns.specs.Ended.{call_failed, ending, is_missed};
 
 use ix_cabinet::Settled;
 use ix_dir::Dir;
@@ -36,6 +37,8 @@ pub fn publish<D: Dir, N: Naming>(
     ensures step { (s : State) → StandsFor N.name_of s library.old.ledger.kept library.old.shelf library.old.known (D.state library.old.dir) → IfOk result (λ how. Takes N.name_of s lane given.Publish (flag_for how) how (D.state library.old.dir) library.new.ledger.kept library.new.shelf library.new.known (D.state library.new.dir)) }
     ensures event { library.new.ledger.events ≡ with_event library.old.ledger.events lane (call.Publish (publish_name N.name_of library.old.ledger.kept lane)) (ending result) }
     ensures cause { (D.state library.new.dir).faults ≡ counted_where (call_failed (ending result)) (D.state library.old.dir).faults }
+    ensures finds { RoseWhere (says_loaded (call.Publish (publish_name N.name_of library.old.ledger.kept lane)) (ending result)) (D.state library.old.dir).finds (D.state library.new.dir).finds }
+    ensures listings { RoseWhere (says_scanned (call.Publish (publish_name N.name_of library.old.ledger.kept lane)) (ending result)) (D.state library.old.dir).listings (D.state library.new.dir).listings }
     ensures again { (s : State) → StandsFor N.name_of s library.old.ledger.kept library.old.shelf library.old.known (D.state library.old.dir) → OnErr result (StandsFor N.name_of s library.new.ledger.kept library.new.shelf library.new.known (D.state library.new.dir)) }
     ensures ready { HasSlots library.new.ledger.kept (D.state library.new.dir) }
     ensures told { (D.state library.old.dir).moves ≡ None → (D.state library.new.dir).moves ≡ None }
@@ -60,6 +63,8 @@ pub fn remove<D: Dir, N: Naming>(
     ensures step { (s : State) → StandsFor N.name_of s library.old.ledger.kept library.old.shelf library.old.known (D.state library.old.dir) → IfOk result (λ how. Takes N.name_of s lane (given.Remove output.now) (flag_for how) how (D.state library.old.dir) library.new.ledger.kept library.new.shelf library.new.known (D.state library.new.dir)) }
     ensures event { library.new.ledger.events ≡ with_event library.old.ledger.events lane (call.Remove (N.name_of output.now)) (ending result) }
     ensures cause { (D.state library.new.dir).faults ≡ counted_where (call_failed (ending result)) (D.state library.old.dir).faults }
+    ensures finds { RoseWhere (says_loaded (call.Remove (N.name_of output.now)) (ending result)) (D.state library.old.dir).finds (D.state library.new.dir).finds }
+    ensures listings { RoseWhere (says_scanned (call.Remove (N.name_of output.now)) (ending result)) (D.state library.old.dir).listings (D.state library.new.dir).listings }
     ensures again { (s : State) → StandsFor N.name_of s library.old.ledger.kept library.old.shelf library.old.known (D.state library.old.dir) → OnErr result (StandsFor N.name_of s library.new.ledger.kept library.new.shelf library.new.known (D.state library.new.dir)) }
     ensures ready { HasSlots library.old.ledger.kept (D.state library.old.dir) → HasSlots library.new.ledger.kept (D.state library.new.dir) }
     ensures told { (D.state library.old.dir).moves ≡ None → (D.state library.new.dir).moves ≡ None }
@@ -83,6 +88,8 @@ pub fn collect<D: Dir, N: Naming>(
     ensures step { (s : State) → StandsFor N.name_of s library.old.ledger.kept library.old.shelf library.old.known (D.state library.old.dir) → IfOk result (λ how. Takes N.name_of s lane given.Collect (flag_for how) how (D.state library.old.dir) library.new.ledger.kept library.new.shelf library.new.known (D.state library.new.dir)) }
     ensures event { library.new.ledger.events ≡ with_event library.old.ledger.events lane call.Collect (ending result) }
     ensures cause { (D.state library.new.dir).faults ≡ counted_where (call_failed (ending result)) (D.state library.old.dir).faults }
+    ensures finds { RoseWhere (says_loaded call.Collect (ending result)) (D.state library.old.dir).finds (D.state library.new.dir).finds }
+    ensures listings { RoseWhere (says_scanned call.Collect (ending result)) (D.state library.old.dir).listings (D.state library.new.dir).listings }
     ensures again { (s : State) → StandsFor N.name_of s library.old.ledger.kept library.old.shelf library.old.known (D.state library.old.dir) → OnErr result (StandsFor N.name_of s library.new.ledger.kept library.new.shelf library.new.known (D.state library.new.dir)) }
     ensures ready { HasSlots library.old.ledger.kept (D.state library.old.dir) → HasSlots library.new.ledger.kept (D.state library.new.dir) }
     ensures told { (D.state library.old.dir).moves ≡ None → (D.state library.new.dir).moves ≡ None }
@@ -99,7 +106,7 @@ pub fn collect<D: Dir, N: Naming>(
 fn collected_as(collected: &Collected) -> Outcome
     ensures ending { Some result ≡ collect_ending (Ok collected.now) }
     ensures done { flag_for result ≡ Done }
-    ensures failed { says_failed result ≡ false }
+    ensures failed { is_failure result ≡ false }
     ensures missed { is_missed result ≡ false }
 {
     match collected {

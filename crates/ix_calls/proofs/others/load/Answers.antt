@@ -1,4 +1,4 @@
-use Rattle.std.proofs.Common.{◌≡◌, ◌∙◌, Bool, true, false, not, is_some, Option, IfSome, refl, sym, ap, subst}
+use Rattle.std.proofs.Common.{◌≡◌, ◌∙◌, Bool, true, false, not, is_some, Option, IfSome, refl, sym, ap, subst, Some}
 use Rattle.std.specs.declared.alloc.Global.{Global}
 use Rattle.std.specs.declared.sync.Arc.{Arc}
 use Rattle.ix_record.specs.declared.value.RecordValue.{RecordValue}
@@ -9,7 +9,7 @@ use Rattle.ix_machine.specs.declared.event.Outcome.TheVariants.{Done}
 use Rattle.ix_machine.specs.Needs.{seen_at}
 use Rattle.ix_looks.specs.Values.{HasValue}
 use Rattle.ix_seats.specs.declared.made.Made.TheVariants.{Loaded}
-use Rattle.ix_turns.specs.Ended.{says_failed}
+use Rattle.ix_counts.specs.Counting.{is_failure}
 use Rattle.ix_calls.proofs.PollCalls.{noted_by}
 use Rattle.ix_calls.proofs.Asked.{failed_made, loaded_made}
 use Rattle.ix_calls.proofs.others.load.Goals as goal
@@ -48,4 +48,18 @@ pub returns-in-Some-clause-cause : goal.returns-in-Some-clause-cause
 returns-in-Some-clause-cause g c =
     let made = c.in_ok-made.made in
     c.in_ok-made.ensures.cause
-    ∙ ap (λ (how : Outcome). counted_where (says_failed how) (g.D.Dir.state c.args.library.now.dir).faults) (subst (λ (o : Option (Arc RecordValue Global)). IfSome o (λ b. made.outcome ≡ Done)) c.in-Some.is c.in_ok-made.ensures.done)
+    ∙ ap (λ (how : Outcome). counted_where (is_failure how) (g.D.Dir.state c.args.library.now.dir).faults) (subst (λ (o : Option (Arc RecordValue Global)). IfSome o (λ b. made.outcome ≡ Done)) c.in-Some.is c.in_ok-made.ensures.done)
+
+pub returns-in-Some-clause-counted : goal.returns-in-Some-clause-counted
+returns-in-Some-clause-counted g c =
+    let old = c.args.library.now in
+    let new = c.load.new.library in
+    c.calls_are_counted.ensures old.ledger.events new.ledger.events c.args.number (call.Load c.args.name) (Some c.in_ok-made.made.outcome) (g.D.Dir.state old.dir) (g.D.Dir.state new.dir)
+    c.in_ok-made.ensures.event c.in_ok-made.ensures.cause c.in_ok-made.ensures.finds c.in_ok-made.ensures.listings
+
+pub returns-in-None-clause-counted : goal.returns-in-None-clause-counted
+returns-in-None-clause-counted g c =
+    let old = c.args.library.now in
+    let new = c.load.new.library in
+    c.calls_are_counted.ensures old.ledger.events new.ledger.events c.args.number (call.Load c.args.name) (Some c.in_ok-made.made.outcome) (g.D.Dir.state old.dir) (g.D.Dir.state new.dir)
+    c.in_ok-made.ensures.event c.in_ok-made.ensures.cause c.in_ok-made.ensures.finds c.in_ok-made.ensures.listings

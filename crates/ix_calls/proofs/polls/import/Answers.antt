@@ -8,7 +8,7 @@ use Rattle.ix_lanes.specs.Calls as turn
 use Rattle.ix_lanes.specs.Calls.{load_or_install}
 use Rattle.ix_polls.specs.Polling.{import_shows}
 use Rattle.ix_seats.specs.declared.made.Made.{Made}
-use Rattle.ix_turns.specs.Ended.{says_failed}
+use Rattle.ix_counts.specs.Counting.{is_failure}
 use Rattle.ix_calls.specs.Turns.{IsCall}
 use Rattle.ix_calls.proofs.PollCalls.{import_never, noted_by, polled_call, shows}
 use Rattle.ix_calls.proofs.polls.import.Goals as goal
@@ -28,4 +28,4 @@ returns-clause-event g c =
 
 pub returns-clause-cause : goal.returns-clause-cause
 returns-clause-cause g c =
-    c.in_ok-polled.ensures.cause ∙ ap (λ (how : Outcome). counted_where (says_failed how) (g.D.Dir.state c.args.library.now.dir).faults) (sym c.made_of.ensures.outcome)
+    c.in_ok-polled.ensures.cause ∙ ap (λ (how : Outcome). counted_where (is_failure how) (g.D.Dir.state c.args.library.now.dir).faults) (sym c.made_of.ensures.outcome)

@@ -1,30 +1,27 @@
--- An input that was read whole is what the source held.
-use Rattle.std.proofs.Common.{◌≡◌, ℕ, List, [], Bool, true, false, Option, Some, None, IfSome, if◌then◌else◌, ap, subst, rules}
-use Rattle.ix_io.specs.declared.transfer.Intake.{Intake}
-use Rattle.ix_io.specs.declared.transfer.Intake.TheVariants.{All, TooLarge}
-use Rattle.ix_io.specs.Transfer.{intake_of}
-use Rattle.ix_main.specs.declared.ending.Ending.{Ending}
-use Rattle.ix_main.specs.Output.{max_input}
-use Rattle.ix_main.specs.Ending.{ending_for, IsEndingFor}
+use Rattle.std.proofs.Common.{◌≡◌, rules}
+use Rattle.ix_plain.specs.declared.ending.Ending.TheVariants as decided
+use Rattle.ix_plain.specs.Ending.{ending_for}
+use Rattle.ix_plain.specs.Output.{Leaves}
+use Rattle.ix_main.proofs.Inputs.{held_beside, held_beside_in, of_input_both}
+use Rattle.ix_main.proofs.TooMany.{are_too_many, too_many, whatever}
 use Rattle.ix_main.proofs.top_call.replay.Goals as goal
 
-abbrev bytes_of : Intake → List ℕ
-bytes_of (All bytes) = bytes
-bytes_of TooLarge = []
+pub returns-in-Ok-All-clause-left : goal.returns-in-Ok-All-clause-left
+returns-in-Ok-All-clause-left g c =
+    of_input_both (λ bytes before transcript. Leaves bytes before transcript (g.D.Dir.state c.replay_read.result.dir).moves) _ _ _ _ (rw c.in-Ok-All.field-0-is at c.in-Ok-All.ensures.intake) (search rules)
 
-abbrev IsAll : Intake → Type 0
-IsAll (All bytes) = Unit {0}
-IsAll TooLarge = ⊥
+pub returns-in-Ok-All-clause-complete : goal.returns-in-Ok-All-clause-complete
+returns-in-Ok-All-clause-complete g c =
+    held_beside_in _ _ (λ bytes. ending_for bytes ≡ decided.Done) _ _ _ (rw c.in-Ok-All.field-0-is at c.in-Ok-All.ensures.intake) (search rules)
 
-read_whole : (held bytes : List ℕ) (fits : Bool) → All bytes ≡ (if fits then All held else TooLarge) → bytes ≡ held
-read_whole held bytes true is = ap bytes_of is
-read_whole held bytes false is = absurd (subst IsAll is tt)
+pub returns-in-Ok-All-clause-untold : goal.returns-in-Ok-All-clause-untold
+returns-in-Ok-All-clause-untold g c =
+    held_beside _ _ (λ bytes. ending_for bytes ≡ decided.Done) _ _ (rw c.in-Ok-All.field-0-is at c.in-Ok-All.ensures.intake) (search rules)
 
-ending_of_held : (held : Option (List ℕ)) (bytes : List ℕ) (ending : Ending) → IfSome held (λ all. All bytes ≡ intake_of max_input all)
-    → IsEndingFor (ending_for bytes) ending → IfSome held (λ all. IsEndingFor (ending_for all) ending)
-ending_of_held None bytes ending is decided = tt
-ending_of_held (Some all) bytes ending is decided = subst (λ b. IsEndingFor (ending_for b) ending) (read_whole all bytes _ is) decided
+pub returns-in-Ok-TooLarge-clause-complete : goal.returns-in-Ok-TooLarge-clause-complete
+returns-in-Ok-TooLarge-clause-complete g c =
+    whatever _ (too_many _ _ (are_too_many _ (rw c.in-Ok-TooLarge.field-0-is at c.in-Ok-TooLarge.ensures.intake)))
 
-pub returns-in-Ok-All-clause-exact : goal.returns-in-Ok-All-clause-exact
-returns-in-Ok-All-clause-exact g c =
-    ending_of_held _ _ _ (rw c.in-Ok-All.field-0-is at c.in-Ok-All.ensures.intake) (search rules)
+pub returns-in-Ok-TooLarge-clause-untold : goal.returns-in-Ok-TooLarge-clause-untold
+returns-in-Ok-TooLarge-clause-untold g c =
+    too_many _ _ (are_too_many _ (rw c.in-Ok-TooLarge.field-0-is at c.in-Ok-TooLarge.ensures.intake))

@@ -2,7 +2,7 @@ use Rattle.std.proofs.Common.{◌≡◌, List, refl, sym, ap, ◌∙◌, Bool, t
 use Rattle.std.specs.List.{list_any}
 use Rattle.ix_machine.specs.declared.event.Event.{Event}
 use Rattle.ix_turns.specs.Ended.{is_missed}
-use Rattle.ix_turn_order.specs.Counting.{is_failure}
+use Rattle.ix_counts.specs.Counting.{is_failure}
 use Rattle.ix_plain.specs.declared.ending.Ending.{Ending}
 use Rattle.ix_plain.specs.declared.ending.Ending.TheVariants.{Done, BadScript, DirFault, WriteFault, Memory, TooLarge, OpenFault, StoreDamaged}
 use Rattle.ix_plain.proofs.laws.events_have_their_ending.Goals as goal

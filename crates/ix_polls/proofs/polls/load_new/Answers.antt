@@ -3,10 +3,11 @@ use Rattle.ix_dir.specs.State.{counted_where}
 use Rattle.ix_machine.specs.declared.event.Purpose.TheVariants as purpose
 use Rattle.ix_machine.specs.Given as given
 use Rattle.ix_import.specs.Importing.{Importing}
-use Rattle.ix_turns.specs.Ended.{says_failed}
+use Rattle.ix_counts.specs.Counting.{is_failure}
 use Rattle.ix_polls.specs.Polling.{Polls}
 use Rattle.ix_polls.proofs.Follows.{may_load}
 use Rattle.ix_polls.proofs.Turning.{load_polls}
+use Rattle.ix_machine.specs.declared.event.Call.TheVariants as call
 use Rattle.ix_polls.proofs.polls.load_new.Goals as goal
 
 pub returns-in-Ok-clause-step : goal.returns-in-Ok-clause-step
@@ -27,8 +28,15 @@ there (Some x) P e p = p
 pub returns-in-Err-clause-cause : goal.returns-in-Err-clause-cause
 returns-in-Err-clause-cause g c =
     c.in_ok-made.ensures.cause
-    ∙ ap (λ (b : Bool). counted_where b (g.D.Dir.state c.args.library.now.dir).faults) (ap says_failed (there c.in_ok-made.made.body _ c.in-Err.ensures.err c.in_ok-made.ensures.done))
+    ∙ ap (λ (b : Bool). counted_where b (g.D.Dir.state c.args.library.now.dir).faults) (ap is_failure (there c.in_ok-made.made.body _ c.in-Err.ensures.err c.in_ok-made.ensures.done))
 
 -- a load that is made leaves the state
 pub returns-in-Err-clause-again : goal.returns-in-Err-clause-again
 returns-in-Err-clause-again g c s stands = there c.in_ok-made.made.body _ c.in-Err.ensures.err (c.in_ok-made.ensures.stays s stands)
+
+pub returns-in-Ok-clause-counted : goal.returns-in-Ok-clause-counted
+returns-in-Ok-clause-counted g c =
+    let old = c.args.library.now in
+    let new = c.load.new.library in
+    c.calls_are_counted.ensures old.ledger.events new.ledger.events c.args.lane (call.Load c.args.name) (Some c.in_ok-made.made.outcome) (g.D.Dir.state old.dir) (g.D.Dir.state new.dir)
+    c.in_ok-made.ensures.event c.in_ok-made.ensures.cause c.in_ok-made.ensures.finds c.in_ok-made.ensures.listings

@@ -1,7 +1,10 @@
-use Rattle.std.proofs.Common.{◌≡◌, ◌∙◌, inl, ℕ, List, Some, length, subst}
+use Rattle.std.proofs.Common.{◌≡◌, ◌∙◌, inl, ℕ, List, [], Some, length, ap, sym, subst}
 use Rattle.std.specs.List.{AllByRecursion}
 use Rattle.ix_dir.specs.declared.moves.Move.{Move}
 use Rattle.ix_dir.specs.Crash.{standing}
+use Rattle.ix_dir.specs.State.{DirState}
+use Rattle.ix_counts.specs.Counting.{counts_of}
+use Rattle.ix_opening.specs.Fault.{HasNotFallen}
 use Rattle.ix_lanes.specs.Rules.{IsReady}
 use Rattle.ix_library.specs.StandsFor.{StandsFor}
 use Rattle.ix_machine.specs.Run as machine
@@ -9,6 +12,7 @@ use Rattle.ix_opening.specs.Found.{opening_of}
 use Rattle.ix_plan.specs.Keeps.{IsLane}
 use Rattle.ix_replays.specs.Run.{fresh, lanes_of}
 use Rattle.ix_replay.proofs.Beginning.{lanes_counted}
+use Rattle.ix_replay.proofs.Counted.{faults_since, finds_since, listings_since}
 use Rattle.ix_replay.proofs.Lists.{all_lift}
 use Rattle.ix_replay.specs.Left.{IsLeft}
 use Rattle.ix_replay.specs.Runs.{IsRun}
@@ -124,3 +128,36 @@ returns-in-Ok-new-clause-wanting g c =
 pub returns-in-Err-clause-wanting : goal.returns-in-Err-clause-wanting
 returns-in-Err-clause-wanting g c =
     if_told (g.D.Dir.state c.args.dir).moves _ _ (λ moves stops is. (stops.0, (λ i. (g.D.Dir.state (c.failed.ensures.dir i)).moves) ∙ stops.1, inl stops.2)) (not_begun g.N.Naming.name_of (g.D.Dir.state c.args.dir).moves)
+
+pub returns-in-Ok-new-clause-failures : goal.returns-in-Ok-new-clause-failures
+returns-in-Ok-new-clause-failures g c =
+    let library = c.in-Ok-open_store.started.library in
+    let runner = c.in-Ok-new.runner in
+    let before = (g.D.Dir.state c.args.dir).faults in
+    let none : runner.library.ledger.events ≡ [] = (λ i. (c.in-Ok-new.ensures.library i).ledger.events) ∙ c.in-Ok-open_store.ensures.events in
+    let same : (g.D.Dir.state runner.library.dir).faults ≡ (g.D.Dir.state library.dir).faults = λ i. (g.D.Dir.state (c.in-Ok-new.ensures.library i).dir).faults in
+    ok_goes c.run.result.result _ _ (λ transcript counted.
+    faults_since runner.library.ledger.events transcript.events (counts_of (g.D.Dir.state runner.library.dir)) (counts_of (g.D.Dir.state c.run.result.dir)) before none counted
+    (same ∙ ap (λ (d : DirState). d.faults) c.in-Ok-open_store.ensures.state)) c.run.ensures.counted
+
+pub returns-in-Ok-new-clause-finds : goal.returns-in-Ok-new-clause-finds
+returns-in-Ok-new-clause-finds g c =
+    let library = c.in-Ok-open_store.started.library in
+    let runner = c.in-Ok-new.runner in
+    let before = (g.D.Dir.state c.args.dir).finds in
+    let none : runner.library.ledger.events ≡ [] = (λ i. (c.in-Ok-new.ensures.library i).ledger.events) ∙ c.in-Ok-open_store.ensures.events in
+    let same : (g.D.Dir.state runner.library.dir).finds ≡ (g.D.Dir.state library.dir).finds = λ i. (g.D.Dir.state (c.in-Ok-new.ensures.library i).dir).finds in
+    ok_goes c.run.result.result _ _ (λ transcript counted.
+    finds_since runner.library.ledger.events transcript.events (counts_of (g.D.Dir.state runner.library.dir)) (counts_of (g.D.Dir.state c.run.result.dir)) before none counted
+    (subst (λ (n : ℕ). HasNotFallen before n) (sym same) c.in-Ok-open_store.ensures.finds)) c.run.ensures.counted
+
+pub returns-in-Ok-new-clause-listings : goal.returns-in-Ok-new-clause-listings
+returns-in-Ok-new-clause-listings g c =
+    let library = c.in-Ok-open_store.started.library in
+    let runner = c.in-Ok-new.runner in
+    let before = (g.D.Dir.state c.args.dir).listings in
+    let none : runner.library.ledger.events ≡ [] = (λ i. (c.in-Ok-new.ensures.library i).ledger.events) ∙ c.in-Ok-open_store.ensures.events in
+    let same : (g.D.Dir.state runner.library.dir).listings ≡ (g.D.Dir.state library.dir).listings = λ i. (g.D.Dir.state (c.in-Ok-new.ensures.library i).dir).listings in
+    ok_goes c.run.result.result _ _ (λ transcript counted.
+    listings_since runner.library.ledger.events transcript.events (counts_of (g.D.Dir.state runner.library.dir)) (counts_of (g.D.Dir.state c.run.result.dir)) before none counted
+    (same ∙ ap (λ (d : DirState). d.listings) c.in-Ok-open_store.ensures.state)) c.run.ensures.counted

@@ -7,7 +7,7 @@ pub loop-event-init : goal.loop-event-init
 loop-event-init g c = record {
   can = c.requires;
   turns = λ first tasks start whole within r. r;
-  counted = c.failures_add_up.ensures.none (g.S.Stepper.events c.args.stepper.now) (g.S.Stepper.faults c.args.stepper.now);
+  counted = c.counts_add_up.ensures.none (g.S.Stepper.events c.args.stepper.now) (g.S.Stepper.counts c.args.stepper.now);
 }
 
 pub loop-event-preserved : goal.loop-event-preserved
@@ -18,8 +18,8 @@ loop-event-preserved g c = record {
       (λ run next lane made low comes ended goes. c.steps_are_turns.ensures.first g.S.Stepper.name_of tasks start run next whole lane made low comes ended goes)
       (c.ended_lanes_stay_ended.ensures.stay g.S.Stepper.name_of tasks) c.args.lane c.in_ok-made.made within (makes_both g.S.Stepper.name_of tasks (g.S.Stepper.stands c.loop-event.stepper tasks) (g.S.Stepper.leaves first start c.loop-event.stepper) (g.S.Stepper.stands c.step.new.self tasks) (g.S.Stepper.leaves first start c.step.new.self) c.args.lane c.in_ok-made.made (c.in_ok-made.ensures.step first start tasks))
       (c.loop-event.invariant.turns first tasks start whole within r);
-  counted = c.failures_add_up.ensures.joined (g.S.Stepper.events c.args.stepper.now) (g.S.Stepper.events c.loop-event.stepper) (g.S.Stepper.events c.step.new.self)
-      (g.S.Stepper.faults c.args.stepper.now) (g.S.Stepper.faults c.loop-event.stepper) (g.S.Stepper.faults c.step.new.self) c.loop-event.invariant.counted c.in_ok-made.ensures.counted;
+  counted = c.counts_add_up.ensures.joined (g.S.Stepper.events c.args.stepper.now) (g.S.Stepper.events c.loop-event.stepper) (g.S.Stepper.events c.step.new.self)
+      (g.S.Stepper.counts c.args.stepper.now) (g.S.Stepper.counts c.loop-event.stepper) (g.S.Stepper.counts c.step.new.self) c.loop-event.invariant.counted c.in_ok-made.ensures.counted;
 }
 
 pub returns-then-not-made-clause-turns : goal.returns-then-not-made-clause-turns
@@ -33,8 +33,8 @@ returns-then-not-made-clause-turns g c first tasks start whole within r =
 
 pub returns-then-not-made-clause-counted : goal.returns-then-not-made-clause-counted
 returns-then-not-made-clause-counted g c =
-    c.failures_add_up.ensures.joined (g.S.Stepper.events c.args.stepper.now) (g.S.Stepper.events c.loop-event.stepper) (g.S.Stepper.events c.step.new.self)
-    (g.S.Stepper.faults c.args.stepper.now) (g.S.Stepper.faults c.loop-event.stepper) (g.S.Stepper.faults c.step.new.self) c.loop-event.invariant.counted c.in_ok-made.ensures.counted
+    c.counts_add_up.ensures.joined (g.S.Stepper.events c.args.stepper.now) (g.S.Stepper.events c.loop-event.stepper) (g.S.Stepper.events c.step.new.self)
+    (g.S.Stepper.counts c.args.stepper.now) (g.S.Stepper.counts c.loop-event.stepper) (g.S.Stepper.counts c.step.new.self) c.loop-event.invariant.counted c.in_ok-made.ensures.counted
 
 pub returns-in_err-made-clause-wanting : goal.returns-in_err-made-clause-wanting
 returns-in_err-made-clause-wanting g c first tasks start whole within r =

@@ -7,7 +7,7 @@ pub loop-lane-init : goal.loop-lane-init
 loop-lane-init g c = record {
   can = c.requires;
   turns = λ first tasks start whole r. r;
-  counted = c.failures_add_up.ensures.none (g.S.Stepper.events c.args.stepper.now) (g.S.Stepper.faults c.args.stepper.now);
+  counted = c.counts_add_up.ensures.none (g.S.Stepper.events c.args.stepper.now) (g.S.Stepper.counts c.args.stepper.now);
 }
 
 pub loop-lane-preserved : goal.loop-lane-preserved
@@ -17,8 +17,8 @@ loop-lane-preserved g c = record {
       order_goes_on g.S.Stepper.name_of tasks (λ (run : Run). g.S.Stepper.stands c.loop-lane.stepper tasks run × g.S.Stepper.leaves first start c.loop-lane.stepper run) (λ (run : Run). g.S.Stepper.stands c.step.new.self tasks run × g.S.Stepper.leaves first start c.step.new.self run) start whole
       (λ run next rest lane made comes goes. c.steps_are_turns.ensures.ordered g.S.Stepper.name_of tasks start run next whole rest lane made comes goes)
       c.args.order.now c.loop-lane.lane-index 0 (get_or c.args.order.now c.loop-lane.lane-index 0) c.in_ok-_made._made c.loop-lane-test.true refl (makes_both g.S.Stepper.name_of tasks (g.S.Stepper.stands c.loop-lane.stepper tasks) (g.S.Stepper.leaves first start c.loop-lane.stepper) (g.S.Stepper.stands c.step.new.self tasks) (g.S.Stepper.leaves first start c.step.new.self) (get_or c.args.order.now c.loop-lane.lane-index 0) c.in_ok-_made._made (c.in_ok-_made.ensures.step first start tasks)) (c.loop-lane.invariant.turns first tasks start whole r);
-  counted = c.failures_add_up.ensures.joined (g.S.Stepper.events c.args.stepper.now) (g.S.Stepper.events c.loop-lane.stepper) (g.S.Stepper.events c.step.new.self)
-      (g.S.Stepper.faults c.args.stepper.now) (g.S.Stepper.faults c.loop-lane.stepper) (g.S.Stepper.faults c.step.new.self) c.loop-lane.invariant.counted c.in_ok-_made.ensures.counted;
+  counted = c.counts_add_up.ensures.joined (g.S.Stepper.events c.args.stepper.now) (g.S.Stepper.events c.loop-lane.stepper) (g.S.Stepper.events c.step.new.self)
+      (g.S.Stepper.counts c.args.stepper.now) (g.S.Stepper.counts c.loop-lane.stepper) (g.S.Stepper.counts c.step.new.self) c.loop-lane.invariant.counted c.in_ok-_made.ensures.counted;
 }
 
 pub returns-clause-turns : goal.returns-clause-turns

@@ -1,7 +1,7 @@
 use Rattle.std.proofs.Common.{ℕ, List, drop}
 use Rattle.ix_lanes.specs.Tasks.{Task}
 use Rattle.ix_replays.specs.Run.{Run}
-use Rattle.ix_turn_order.specs.Counting.{AreCounted}
+use Rattle.ix_counts.specs.Counting.{AreCounted}
 use Rattle.ix_turn_order.specs.Order.{IsReplaying}
 use Rattle.ix_turn_order.proofs.replaying.run_order.Given as goal
 
@@ -10,5 +10,5 @@ invariant-loop-lane g l = record {
   can : g.S.Stepper.can_step l.stepper;
   turns : (first : _) (tasks : List (List Task)) (start : Run) (whole : List ℕ) → IsReplaying g.S.Stepper.name_of tasks (λ (run : Run). g.S.Stepper.stands l.initial.stepper tasks run × g.S.Stepper.leaves first start l.initial.stepper run) start whole l.order 0
       → IsReplaying g.S.Stepper.name_of tasks (λ (run : Run). g.S.Stepper.stands l.stepper tasks run × g.S.Stepper.leaves first start l.stepper run) start whole (drop l.lane-index l.order) 0;
-  counted : AreCounted (g.S.Stepper.events l.initial.stepper) (g.S.Stepper.faults l.initial.stepper) (g.S.Stepper.events l.stepper) (g.S.Stepper.faults l.stepper);
+  counted : AreCounted (g.S.Stepper.events l.initial.stepper) (g.S.Stepper.counts l.initial.stepper) (g.S.Stepper.events l.stepper) (g.S.Stepper.counts l.stepper);
 }

@@ -8,15 +8,15 @@ pub loop-lane-init : goal.loop-lane-init
 loop-lane-init g c = record {
   can = c.requires;
   turns = λ first tasks start whole count r. r;
-  counted = c.failures_add_up.ensures.none (g.S.Stepper.events c.args.stepper.now) (g.S.Stepper.faults c.args.stepper.now);
+  counted = c.counts_add_up.ensures.none (g.S.Stepper.events c.args.stepper.now) (g.S.Stepper.counts c.args.stepper.now);
 }
 
 pub loop-lane-preserved : goal.loop-lane-preserved
 loop-lane-preserved g c = record {
   can = c.in_ok-run_lane.ensures.can;
   turns = λ first tasks start whole count r. c.in_ok-run_lane.ensures.turns first tasks start whole (let low = c.loop-lane-test.true in omega (arith, count, low)) (c.loop-lane.invariant.turns first tasks start whole count r);
-  counted = c.failures_add_up.ensures.joined (g.S.Stepper.events c.args.stepper.now) (g.S.Stepper.events c.loop-lane.stepper) (g.S.Stepper.events c.run_lane.new.stepper)
-      (g.S.Stepper.faults c.args.stepper.now) (g.S.Stepper.faults c.loop-lane.stepper) (g.S.Stepper.faults c.run_lane.new.stepper) c.loop-lane.invariant.counted c.in_ok-run_lane.ensures.counted;
+  counted = c.counts_add_up.ensures.joined (g.S.Stepper.events c.args.stepper.now) (g.S.Stepper.events c.loop-lane.stepper) (g.S.Stepper.events c.run_lane.new.stepper)
+      (g.S.Stepper.counts c.args.stepper.now) (g.S.Stepper.counts c.loop-lane.stepper) (g.S.Stepper.counts c.run_lane.new.stepper) c.loop-lane.invariant.counted c.in_ok-run_lane.ensures.counted;
 }
 
 pub returns-clause-turns : goal.returns-clause-turns

@@ -38,5 +38,5 @@ returns-in_err-run_rest-clause-wanting g c script opening same count stands left
 
 pub returns-clause-counted : goal.returns-clause-counted
 returns-clause-counted g c =
-    c.failures_add_up.ensures.joined (g.S.Stepper.events c.args.stepper.now) (g.S.Stepper.events c.run_order.new.stepper) (g.S.Stepper.events c.run_rest.new.stepper)
-    (g.S.Stepper.faults c.args.stepper.now) (g.S.Stepper.faults c.run_order.new.stepper) (g.S.Stepper.faults c.run_rest.new.stepper) c.in_ok-run_order.ensures.counted c.in_ok-run_rest.ensures.counted
+    c.counts_add_up.ensures.joined (g.S.Stepper.events c.args.stepper.now) (g.S.Stepper.events c.run_order.new.stepper) (g.S.Stepper.events c.run_rest.new.stepper)
+    (g.S.Stepper.counts c.args.stepper.now) (g.S.Stepper.counts c.run_order.new.stepper) (g.S.Stepper.counts c.run_rest.new.stepper) c.in_ok-run_order.ensures.counted c.in_ok-run_rest.ensures.counted

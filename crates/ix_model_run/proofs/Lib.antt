@@ -1,0 +1,11 @@
+mod Following
+mod Calling
+mod Settling
+mod Importing
+mod Turns
+mod Found
+mod Placing
+mod Running
+mod Names
+mod Beginning
+mod Ended

@@ -1,0 +1,4 @@
+pub mod Settling
+pub mod Importing
+pub mod Kept
+pub mod Standing

@@ -1,4 +1,0 @@
-pub mod Enumerated
-pub mod OneLane
-pub mod OneTranscript
-pub mod StoredRecords

@@ -1,6 +1,0 @@
-use Rattle.std.proofs.Common.{◌≡◌, map, take}
-use Rattle.ix_runs.specs.Job.{include_of}
-use Rattle.ix_runs.proofs.job.includes.Given as goal
-
-abbrev pub invariant-loop-plan : goal.invariant-loop-plan
-invariant-loop-plan l = l.includes.items ≡ map include_of (take l.plan-index l.plans)

@@ -1,6 +1,0 @@
-use Rattle.std.proofs.Common.{◌≡◌, map, take}
-use Rattle.ix_runs.specs.Job.{symbol_of}
-use Rattle.ix_runs.proofs.job.listed_symbols.Given as goal
-
-abbrev pub invariant-loop-plan : goal.invariant-loop-plan
-invariant-loop-plan l = l.symbols.items ≡ map symbol_of (take l.plan-index l.plans)

@@ -1,7 +1,0 @@
-use Rattle.std.proofs.Common.{◌≡◌, take}
-use Rattle.std.specs.List.{filter_map}
-use Rattle.ix_runs.specs.Job.{occurrence_of}
-use Rattle.ix_runs.proofs.job.occurrences_of.Given as goal
-
-abbrev pub invariant-loop-plan : goal.invariant-loop-plan
-invariant-loop-plan l = l.occurrences.items ≡ filter_map (occurrence_of l.symbols) (take l.plan-index l.plans)

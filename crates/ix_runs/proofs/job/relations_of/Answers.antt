@@ -1,8 +1,0 @@
-use Rattle.std.proofs.Common.{[]}
-use Rattle.ix_model.proofs.Door.{one_more}
-use Rattle.ix_runs.specs.Job.{relation_of}
-use Rattle.ix_runs.proofs.job.relations_of.Goals as goal
-
-pub loop-plan-preserved : goal.loop-plan-preserved
-loop-plan-preserved c =
-    one_more (relation_of c.args.symbols.now) c.args.plans.now c.loop-plan.plan-index c.plan-item.result c.loop-plan-test.true c.plan-item.is [] c.loop-plan.relations.items c.append_some.new.out.items c.relation_of.result c.relation_of.ensures c.loop-plan.invariant c.in_ok-append_some.ensures

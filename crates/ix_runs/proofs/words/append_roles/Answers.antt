@@ -1,6 +1,0 @@
-use Rattle.ix_runs.specs.Text.{role_names}
-use Rattle.ix_runs.proofs.words.append_roles.Goals as goal
-
-pub returns : goal.returns
-unfolding role_names
-returns c = c.push_names.ensures.names
