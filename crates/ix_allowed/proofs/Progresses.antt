@@ -13,7 +13,8 @@ use Rattle.ix_lanes.specs.declared.answered.Answered.{Answered}
 use Rattle.ix_jobs.specs.Made.{Made}
 use Rattle.ix_lanes.specs.Tasks.{Task}
 use Rattle.ix_lanes.specs.Tasks as task
-use Rattle.ix_lanes.specs.Progress.{Progress, begun, told, goes_on, build_goes_on, poll_told, scanned, imported, ask_told, adopted, answered, ended_at, settled, settled_over, noted, with_some, is_done, loaded_by, after_event, progress_after}
+use Rattle.ix_lanes.specs.Progress.{Progress, begun, told, goes_on, build_goes_on, poll_told, scanned, imported, ask_told, adopted, answered, ended_at, settled, settled_over, noted, with_some, loaded_by, after_event, progress_after}
+use Rattle.ix_machine.specs.Outcomes.{is_done}
 use Rattle.ix_allowed.specs.Agree.{lease_at, lease_in, import_at, import_in, IsBuilding, IsUnderWay}
 use Rattle.ix_allowed.proofs.Steps.{at, lease_begun, import_begun}
 

@@ -29,7 +29,8 @@ use Rattle.ix_lanes.specs.declared.doing.Kind.{Kind}
 use Rattle.ix_lanes.specs.declared.doing.Kind.TheVariants as kind
 use Rattle.ix_lanes.specs.Calls as turn
 use Rattle.ix_lanes.specs.Calls.{call_for, next_call, next_turn, task_turn}
-use Rattle.ix_lanes.specs.Progress.{Progress, ask_told, is_ask, is_asking, is_done, noted, told, told_by, with_loaded}
+use Rattle.ix_lanes.specs.Progress.{Progress, ask_told, is_ask, is_asking, noted, told, told_by, with_loaded}
+use Rattle.ix_machine.specs.Outcomes.{is_done}
 use Rattle.ix_lanes.specs.declared.doing.Doing.{Doing}
 use Rattle.ix_lanes.specs.Tasks as task
 use Rattle.ix_lanes.specs.Tasks.{Task, kind_of}

@@ -25,7 +25,8 @@ use Rattle.ix_lanes.specs.declared.doing.Kind.{Kind}
 use Rattle.ix_lanes.specs.declared.doing.Kind.TheVariants as kind
 use Rattle.ix_lanes.specs.Calls as turn
 use Rattle.ix_lanes.specs.Calls.{Turn, call_for, next_call, next_turn}
-use Rattle.ix_lanes.specs.Progress.{Progress, build_goes_on, is_ask, is_asking, is_done, loaded_by, noted, told, told_by, with_some}
+use Rattle.ix_lanes.specs.Progress.{Progress, build_goes_on, is_ask, is_asking, loaded_by, noted, told, told_by, with_some}
+use Rattle.ix_machine.specs.Outcomes.{is_done}
 use Rattle.ix_lanes.specs.Tasks.{kind_of}
 use Rattle.ix_replays.specs.Run.{call_of, flag_of}
 use Rattle.ix_polls.specs.Following.{leaves_import}

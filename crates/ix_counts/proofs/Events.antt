@@ -7,7 +7,8 @@ use Rattle.ix_machine.specs.declared.event.Call.TheVariants.{Lease, Put, Stage, 
 use Rattle.ix_machine.specs.declared.event.Event.{Event}
 use Rattle.ix_machine.specs.declared.event.Outcome.{Outcome}
 use Rattle.ix_machine.specs.declared.event.Outcome.TheVariants.{Done, Written, Shared, Clash, Synced, Unsynced, NoUnit, At, Removed, Nothing, Fault, Lost, Damaged}
-use Rattle.ix_counts.specs.Counting.{AreCounted, Counts, RoseBy, RoseWhere, has_mark, is_done, is_failure, is_loaded, is_scanned}
+use Rattle.ix_counts.specs.Counting.{AreCounted, Counts, RoseBy, RoseWhere, has_mark, is_failure, is_loaded, is_scanned}
+use Rattle.ix_machine.specs.Outcomes.{is_done}
 
 -- ---- which outcomes
 

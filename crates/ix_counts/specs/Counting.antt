@@ -7,6 +7,7 @@ use Rattle.ix_machine.specs.declared.event.Call.TheVariants.{Lease, Put, Stage, 
 use Rattle.ix_machine.specs.declared.event.Event.{Event}
 use Rattle.ix_machine.specs.declared.event.Outcome.{Outcome}
 use Rattle.ix_machine.specs.declared.event.Outcome.TheVariants.{Done, Written, Shared, Clash, Synced, Unsynced, NoUnit, At, Removed, Nothing, Fault, Lost, Damaged}
+use Rattle.ix_machine.specs.Outcomes.{is_done}
 
 -- ---- what an event says
 
@@ -25,22 +26,6 @@ is_failure Nothing = false
 is_failure Fault = true
 is_failure (Lost name) = false
 is_failure (Damaged name) = false
-
--- whether it says that the step is made, with no more to say
-abbrev pub is_done : Outcome → Bool
-is_done Done = true
-is_done Written = false
-is_done Shared = false
-is_done Clash = false
-is_done Synced = false
-is_done Unsynced = false
-is_done NoUnit = false
-is_done (At mark) = false
-is_done (Removed name) = false
-is_done Nothing = false
-is_done Fault = false
-is_done (Lost name) = false
-is_done (Damaged name) = false
 
 -- whether it says that the step ended at a mark
 abbrev pub has_mark : Outcome → Bool

@@ -2,10 +2,11 @@
 ghost use Rattle.std.specs.Prelude.{◌≡◌, IfOk};
 ghost use Rattle.std.specs.FinMap.{IsAntisymmetric, nat_cmp-IsAntisymmetric, slice_cmp-IsAntisymmetric};
 
+use ix_pages::Key;
 use ix_types::{FileName, Memory, Text};
 
 /// A key or a value of an index: only equal ones compare as equal, and a second one can be made.
-pub trait Item: Ord + Drop {
+pub trait Item: Key + Drop {
     /// The same once more.
     fn copied(&self) -> Result<Self, Memory>
         ensures { IfOk result (λ copy. copy ≡ self.now) };

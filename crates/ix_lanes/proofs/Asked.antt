@@ -15,7 +15,8 @@ use Rattle.ix_lanes.specs.declared.answered.Answered.{Answered}
 use Rattle.ix_lanes.specs.declared.doing.Doing.{Doing}
 use Rattle.ix_lanes.specs.declared.doing.Doing.TheVariants.{Begun, Putting, Staged, Importing}
 use Rattle.ix_lanes.specs.Tasks.{Task, Build, Remove, Poll, Refresh, Ask, Release, Collect}
-use Rattle.ix_lanes.specs.Progress.{Progress, told, goes_on, build_goes_on, scanned, imported, poll_told, adopted, ask_told, over, answered, settled, settled_over, ended_at, noted, with_some, is_asking, is_done, loaded_by, after_event, progress_after, begun}
+use Rattle.ix_lanes.specs.Progress.{Progress, told, goes_on, build_goes_on, scanned, imported, poll_told, adopted, ask_told, over, answered, settled, settled_over, ended_at, noted, with_some, is_asking, loaded_by, after_event, progress_after, begun}
+use Rattle.ix_machine.specs.Outcomes.{is_done}
 use Rattle.ix_lanes.specs.Laws.{asks_of, IsResultOf, IsAnswerTo, AreAnswersTo}
 
 zip_more : {A B : Type 0} (R : A → B → Type 0) (xs : List A) (ys : List B) (x : A) (y : B) → AllZip R xs ys → R x y → AllZip R (xs ++ x ∷ []) (ys ++ y ∷ [])

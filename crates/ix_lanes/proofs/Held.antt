@@ -14,7 +14,8 @@ use Rattle.ix_lanes.specs.declared.doing.Doing.TheVariants.{Begun, Putting, Stag
 use Rattle.ix_lanes.specs.declared.doing.Kind.{Kind}
 use Rattle.ix_lanes.specs.declared.doing.Kind.TheVariants as kind
 use Rattle.ix_lanes.specs.Tasks.{Task, Build, Remove, Poll, Refresh, Ask, Release, Collect, kind_of}
-use Rattle.ix_lanes.specs.Progress.{Progress, told, told_by, goes_on, build_goes_on, scanned, imported, poll_told, adopted, ask_told, answered, settled, settled_over, ended_at, noted, with_some, is_asking, is_done, loaded_by, after_event, progress_after, begun}
+use Rattle.ix_lanes.specs.Progress.{Progress, told, told_by, goes_on, build_goes_on, scanned, imported, poll_told, adopted, ask_told, answered, settled, settled_over, ended_at, noted, with_some, is_asking, loaded_by, after_event, progress_after, begun}
+use Rattle.ix_machine.specs.Outcomes.{is_done}
 use Rattle.ix_lanes.specs.Laws.{IsHeldAfter, AgreeAt}
 
 stays : (next : Option Doing) (p : Progress) → (goes_on next p).held ≡ p.held

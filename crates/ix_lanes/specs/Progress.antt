@@ -12,6 +12,7 @@ use Rattle.ix_machine.specs.declared.event.Call.TheVariants as call
 use Rattle.ix_machine.specs.declared.event.Outcome.{Outcome}
 use Rattle.ix_machine.specs.declared.event.Outcome.TheVariants.{Done, Written, Shared, Clash, Synced, Unsynced, NoUnit, At, Removed, Nothing, Fault, Lost, Damaged}
 use Rattle.ix_machine.specs.declared.event.Event.{Event}
+use Rattle.ix_machine.specs.Outcomes.{is_done}
 use Rattle.ix_lanes.specs.declared.answered.AskResult.{AskResult}
 use Rattle.ix_lanes.specs.declared.answered.AskResult.TheVariants as result
 use Rattle.ix_lanes.specs.declared.answered.Answered.{Answered}
@@ -207,21 +208,6 @@ loaded_by call.Install = None
 loaded_by call.Adopt = None
 loaded_by call.Release = None
 loaded_by call.Collect = None
-
-abbrev pub is_done : Outcome → Bool
-is_done Done = true
-is_done Written = false
-is_done Shared = false
-is_done Clash = false
-is_done Synced = false
-is_done Unsynced = false
-is_done NoUnit = false
-is_done (At mark) = false
-is_done (Removed name) = false
-is_done Nothing = false
-is_done Fault = false
-is_done (Lost name) = false
-is_done (Damaged name) = false
 
 -- whether an ask is under way
 abbrev pub is_ask : Kind → Bool

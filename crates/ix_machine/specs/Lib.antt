@@ -4,6 +4,7 @@ pub mod Laws
 pub mod Listed
 pub mod Needs
 pub mod Opening
+pub mod Outcomes
 pub mod Plain
 pub mod PlainMap
 pub mod PlainOpened

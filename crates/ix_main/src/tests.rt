@@ -1,4 +1,4 @@
-//! The worked rows of the top call: words and bytes come in, bytes and a status come out, over directories in memory.
+//! Worked cases of the top call: words and bytes come in, bytes and a status come out, over directories in memory.
 use crate::ending::Ending;
 use crate::top_call::{Ended, plain};
 use ix_dir::{Area, Dir, MemoryDir, Pick, Reads, ReadsFrom, UntoldDir};

@@ -10,7 +10,8 @@ use Rattle.ix_lanes.specs.declared.doing.Doing.{Doing}
 use Rattle.ix_lanes.specs.declared.doing.Doing.TheVariants.{Begun, Putting, Staged, Importing}
 use Rattle.ix_lanes.specs.declared.doing.Kind.{Kind}
 use Rattle.ix_lanes.specs.declared.doing.Kind.TheVariants as kind
-use Rattle.ix_lanes.specs.Progress.{Progress, adopted, after_event, answered, ask_told, begun, build_goes_on, ended_at, goes_on, imported, is_asking, is_done, let_go, loaded_by, noted, over, poll_told, scanned, settled, settled_over, told, told_by, with_some}
+use Rattle.ix_lanes.specs.Progress.{Progress, adopted, after_event, answered, ask_told, begun, build_goes_on, ended_at, goes_on, imported, is_asking, let_go, loaded_by, noted, over, poll_told, scanned, settled, settled_over, told, told_by, with_some}
+use Rattle.ix_machine.specs.Outcomes.{is_done}
 use Rattle.ix_lanes.specs.Tasks.{Task, Build, Remove, Poll, Refresh, Ask, Release, Collect, kind_of}
 use Rattle.ix_model_run.specs.declared.progress.Import.{Import}
 use Rattle.ix_model_run.specs.Importing.{IsImport, import_after}

@@ -6,7 +6,8 @@ use Rattle.ix_machine.specs.declared.event.Event.{Event}
 use Rattle.ix_lanes.specs.Calls as turn
 use Rattle.ix_lanes.specs.Calls.{Turn}
 use Rattle.ix_lanes.specs.declared.answered.AskResult.{AskResult}
-use Rattle.ix_lanes.specs.Progress.{Progress, ended_at, is_asking, is_done, loaded_by}
+use Rattle.ix_lanes.specs.Progress.{Progress, ended_at, is_asking, loaded_by}
+use Rattle.ix_machine.specs.Outcomes.{is_done}
 use Rattle.ix_lanes.specs.Tasks.{Task, Build, Remove, Poll, Refresh, Ask, Release, Collect}
 
 -- the query of a turn that is an ask

@@ -1,4 +1,4 @@
-//! The worked rows: the run in the order and with the flags that a row's transcript shows has that transcript, to the byte.
+//! Worked cases: the run in the order and with the flags that a row's transcript shows has that transcript, to the byte.
 use super::*;
 use ix_io::MemorySink;
 use ix_machine::{Opened, Outcome, StoredUnit};

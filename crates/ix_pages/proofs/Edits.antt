@@ -1,34 +1,30 @@
 -- Edits: parted at a key, and made in a tree.
-use Rattle.std.proofs.Common.{◌≡◌, ℕ, suc, ◌<◌, ◌≤◌, true, false, not, List, [], ◌∷◌, ◌++◌, length, map, take, drop, get_or, filter, sym, ◌∙◌, ap, subst, Option, None, Some, Ok, Err, slice_get, arith}
+use Rattle.std.proofs.Common.{◌≡◌, ℕ, suc, ◌<◌, ◌≤◌, true, false, not, List, [], ◌∷◌, ◌++◌, length, map, take, drop, get_or, filter, sym, ◌∙◌, ap, subst, Option, Ok, Err, arith}
 use Rattle.std.specs.List.{AllByRecursion}
 use Rattle.std.specs.List.Sorted.{IsBinarySearchResult}
 use Rattle.std.specs.declared.cmp.Ordering.{Ordering}
 use Rattle.std.specs.declared.cmp.Ordering.TheVariants.{Less, Greater}
 use Rattle.std.specs.Ordering.{is_lt}
 use Rattle.std.specs.Cmp.{IsTotalOrder}
+use Rattle.std.specs.Borrow.{Bor}
 use Rattle.std.proofs.Math.Seq.{drop-cons}
 use Rattle.std.proofs.lemmas.List.{append_assoc, map-append, take-append-drop}
-use Rattle.std.proofs.lemmas.List.Elements.{filter_agree}
 use Rattle.ix_pages.specs.declared.changes.Change.{Change}
 use Rattle.ix_pages.specs.declared.bulk.Edit.{Edit}
-use Rattle.ix_pages.specs.declared.bulk.Edit.TheVariants.{Place, Remove}
+use Rattle.ix_pages.specs.declared.bulk.Edit.TheVariants.{Place, Remove, Without}
 use Rattle.std.specs.declared.sync.Arc.{Arc}
 use Rattle.std.specs.declared.alloc.Global.{Global}
 use Rattle.ix_pages.specs.declared.page.Entry.{Entry}
-use Rattle.ix_pages.specs.declared.tree.Tree.{Tree}
-use Rattle.ix_pages.specs.Pairs.{is_before, IsRising, IsParted}
+use Rattle.ix_pages.specs.Pairs.{IsRising, IsParted}
 use Rattle.ix_pages.specs.Paging.{pairs_of}
 use Rattle.ix_pages.specs.Changes.{key_of_change, changed, AreRising, changes_before, changes_behind, pages_changed}
-use Rattle.ix_pages.specs.Tree.{pair_of, pages_of, IsFirst, IsTree, IsRestOf}
+use Rattle.ix_pages.specs.Tree.{pair_of}
 use Rattle.ix_pages.specs.Edits.{change_of, key_of_edit}
 use Rattle.ix_pages.proofs.Order.{less_back, greater_back}
 use Rattle.ix_pages.proofs.Parting.{parted_absent, parted_present}
 use Rattle.ix_pages.proofs.Paged.{pairs_of-append}
-use Rattle.ix_pages.proofs.Trees.{has_page, before_first}
 use Rattle.ix_pages.proofs.Filters.{filter_front, filter_back, all_mapped}
-use Rattle.ix_pages.proofs.Elements.{all_follow}
-use Rattle.ix_pages.proofs.OneGo.{pairs_of_changed}
-use Rattle.ix_pages.proofs.Changing.{changed_right, none_changed, rising_changes_left, rising_changes_right, changed_in_two, put_merged, take_merged}
+use Rattle.ix_pages.proofs.Changing.{rising_changes_left, rising_changes_right, changed_in_two, put_merged, take_merged}
 
 module _ {K V : Type 0} where
   -- an edit behind its key, as pairs are parted
@@ -38,14 +34,6 @@ module _ {K V : Type 0} where
   pub keyed_rise : (cmp : K → K → Ordering) (es : List (Edit K V)) → AreRising cmp (map change_of es) → IsRising cmp (map keyed es)
   keyed_rise cmp [] rising = tt
   keyed_rise cmp (e ∷ es) rising = (all_mapped change_of keyed (λ later. cmp (key_of_edit e) (key_of_change later) ≡ Less) (λ later. cmp (key_of_edit e) later.0 ≡ Less) (λ x below. below) es rising.0, keyed_rise cmp es rising.1)
-
-  -- a tree stays where there is no edit
-  pub nothing_edited : (cmp : K → K → Ordering) (most : ℕ) (tree same : Arc (Tree K V) Global) (es : List (Edit K V)) → length es ≡ 0 → same.value ≡ tree.value → IsTree tree.value → IsRestOf (Some same) (pages_changed cmp most (pages_of tree.value) (map change_of es))
-  nothing_edited cmp most tree same [] none is whole = record {
-    whole = subst IsTree (sym is) whole;
-    is = ap pages_of is ∙ sym (none_changed cmp most (pages_of tree.value));
-  }
-  nothing_edited cmp most tree same (e ∷ es) none is whole = absurd (omega arith)
 
   in_two : (es : List (Edit K V)) (at : ℕ) → map change_of es ≡ map change_of (take at es) ++ map change_of (drop at es)
   in_two es at = ap (map change_of) (sym (take-append-drop at es)) ∙ map-append change_of (take at es) (drop at es)
@@ -96,52 +84,11 @@ module _ {K V : Type 0} {cmp : K → K → Ordering} (o : IsTotalOrder cmp) wher
   pub rising_dropped : (es : List (Edit K V)) (at : ℕ) → AreRising cmp (map change_of es) → AreRising cmp (map change_of (drop at es))
   rising_dropped es at rising = rising_changes_right cmp (map change_of (take at es)) (map change_of (drop at es)) (subst (AreRising cmp) (in_two es at) rising)
 
-  -- a tree of two parts, each with the changes that fall into it
-  pub edited_in_two : (most : ℕ) (least : K × V) (left : Tree K V) (back pages front_after back_after : List (List (K × V))) (changes before behind : List (Change K V)) → IsRising cmp (pairs_of pages) → pages ≡ pages_of left ++ back → IsFirst least (pairs_of back)
-      → before ≡ filter (λ change. is_lt (cmp (key_of_change change) least.0)) changes → behind ≡ filter (λ change. not (is_lt (cmp (key_of_change change) least.0))) changes
-      → front_after ≡ pages_changed cmp most (pages_of left) before → back_after ≡ pages_changed cmp most back behind
-      → front_after ++ back_after ≡ pages_changed cmp most pages changes
-  edited_in_two most least left back pages front_after back_after changes before behind rising is first p q made made_back =
-      let known = has_page left in
-      let up : IsRising cmp (pairs_of (pages_of left) ++ pairs_of back) = subst (IsRising cmp) (ap pairs_of is ∙ pairs_of-append (pages_of left) back) rising in
-      let whole : pages_changed cmp most (pages_of left ++ back) changes ≡ pages_changed cmp most (pages_of left) (changes_before cmp (pairs_of back) changes) ++ pages_changed cmp most back (changes_behind cmp (pairs_of back) changes) =
-      subst (λ pages. IsRising cmp (pairs_of pages ++ pairs_of back) → pages_changed cmp most (pages ++ back) changes ≡ pages_changed cmp most pages (changes_before cmp (pairs_of back) changes) ++ pages_changed cmp most back (changes_behind cmp (pairs_of back) changes)) (sym known.2) (changed_in_two o most known.0 known.1 back changes) up in
-      let same : (change : Change K V) → is_before cmp (key_of_change change) (pairs_of back) ≡ is_lt (cmp (key_of_change change) least.0) = λ change. before_first cmp (key_of_change change) least (pairs_of back) first in
-      let own : changes_before cmp (pairs_of back) changes ≡ before = filter_agree _ _ same changes ∙ sym p in
-      let other : changes_behind cmp (pairs_of back) changes ≡ behind = filter_agree _ _ (λ change. ap not (same change)) changes ∙ sym q in
-      ap (λ pages. pages ++ back_after) made ∙ ap (λ pages. pages_changed cmp most (pages_of left) before ++ pages) made_back
-      ∙ ap (λ cs. pages_changed cmp most (pages_of left) cs ++ pages_changed cmp most back behind) (sym own)
-      ∙ ap (λ cs. pages_changed cmp most (pages_of left) (changes_before cmp (pairs_of back) changes) ++ pages_changed cmp most back cs) (sym other)
-      ∙ sym whole ∙ ap (λ pages. pages_changed cmp most pages changes) (sym is)
-
-  -- edits whose first key is greater than a key
-  pub all_greater : (key : K) (es : List (Edit K V)) (first : Edit K V) → slice_get es 0 ≡ Some first → AreRising cmp (map change_of es) → cmp key (key_of_edit first) ≡ Less → AllByRecursion (λ change. cmp key (key_of_change change) ≡ Less) (map change_of es)
-  all_greater key [] first is rising less = absurd (cc)
-  all_greater key (e ∷ es) first is rising less =
-      let at : cmp key (key_of_edit e) ≡ Less = ap (λ x. match_first key x) is ∙ less in
-      (at, all_follow _ _ (λ change up. o.trans key (key_of_edit e) (key_of_change change) at up) (map change_of es) rising.0)
-    where
-      match_first : K → Option (Edit K V) → Ordering
-      match_first key None = Less
-      match_first key (Some x) = cmp key (key_of_edit x)
-
-  first_of_changed : (first : K × V) (pairs : List (K × V)) (changes : List (Change K V)) → IsFirst first pairs → AllByRecursion (λ change. cmp first.0 (key_of_change change) ≡ Less) changes → IsFirst first (changed cmp pairs changes)
-  first_of_changed first [] changes is greater = absurd (cc)
-  first_of_changed first (p ∷ ps) changes is greater =
-      let same : Some p ≡ Some first = is in
-      let above : AllByRecursion (λ change. AllByRecursion (λ x. cmp (key_of_change change) x.0 ≡ Greater) (p ∷ [])) changes =
-      all_follow _ _ (λ change less. (less_back o p.0 (key_of_change change) (ap (λ x. match_key x (key_of_change change)) same ∙ less), tt)) changes greater in
-      ap (λ pairs. slice_get pairs 0) (changed_right cmp (p ∷ []) ps changes above) ∙ same
-    where
-      match_key : Option (K × V) → K → Ordering
-      match_key None key = Less
-      match_key (Some x) key = cmp x.0 key
-
-  -- changes of greater keys leave the first pair
-  pub first_stays : (most : ℕ) (first : K × V) (pages after : List (List (K × V))) (changes : List (Change K V)) → IsFirst first (pairs_of pages) → IsRising cmp (pairs_of pages) → AreRising cmp changes
-      → AllByRecursion (λ change. cmp first.0 (key_of_change change) ≡ Less) changes → after ≡ pages_changed cmp most pages changes → IsFirst first (pairs_of after)
-  first_stays most first pages after changes is rising up greater made =
-      subst (λ pairs. IsFirst first pairs) (sym (ap pairs_of made ∙ pairs_of_changed o most pages changes rising up)) (first_of_changed first (pairs_of pages) changes is greater)
+  -- pages in two parts, each with the changes that fall into it
+  pub edited_in_two : (most : ℕ) (front back : List (List (K × V))) (changes : List (Change K V)) → 0 < length front → IsRising cmp (pairs_of (front ++ back))
+      → pages_changed cmp most (front ++ back) changes ≡ pages_changed cmp most front (changes_before cmp (pairs_of back) changes) ++ pages_changed cmp most back (changes_behind cmp (pairs_of back) changes)
+  edited_in_two most [] back changes some rising = absurd (omega arith)
+  edited_in_two most (page ∷ front) back changes some rising = changed_in_two o most page front back changes (subst (IsRising cmp) (pairs_of-append (page ∷ front) back) rising)
 
   -- a page that grew by the pairs up to an edit, and by that of a put
   pub place_made : (edit : Edit K V) (entry e : Arc (Entry K V) Global) (key : K) (p0 p1 p2 rest lesser greater : List (Arc (Entry K V) Global)) (same : Option (K × V)) → edit ≡ Place entry → key ≡ key_of_edit edit → map pair_of p1 ≡ map pair_of p0 ++ map pair_of lesser → p2 ≡ p1 ++ e ∷ [] → e.value ≡ entry.value
@@ -167,4 +114,15 @@ module _ {K V : Type 0} {cmp : K → K → Ordering} (o : IsTotalOrder cmp) wher
       ap (λ x. x ++ changed cmp (map pair_of greater) later) front
       ∙ append_assoc (map pair_of p0) (map pair_of lesser) (changed cmp (map pair_of greater) later)
       ∙ ap (λ x. map pair_of p0 ++ x) (take_merged o k (map pair_of rest) (map pair_of lesser) same (map pair_of greater) later parted_here above_here)
+      ∙ ap (λ ed. map pair_of p0 ++ changed cmp (map pair_of rest) (change_of ed ∷ later)) (sym is)
+
+  pub without_made : (edit : Edit K V) (k : Bor K) (key : K) (p0 p1 rest lesser greater : List (Arc (Entry K V) Global)) (same : Option (K × V)) → edit ≡ Without k → key ≡ key_of_edit edit → map pair_of p1 ≡ map pair_of p0 ++ map pair_of lesser
+      → IsParted cmp key (map pair_of rest) (map pair_of lesser) same (map pair_of greater) → (later : List (Change K V)) → AllByRecursion (λ change. cmp (key_of_edit edit) (key_of_change change) ≡ Less) later
+      → map pair_of p1 ++ changed cmp (map pair_of greater) later ≡ map pair_of p0 ++ changed cmp (map pair_of rest) (change_of edit ∷ later)
+  without_made edit k key p0 p1 rest lesser greater same is at front parted later above =
+      let parted_here = subst (λ k. IsParted cmp k (map pair_of rest) (map pair_of lesser) same (map pair_of greater)) (at ∙ ap key_of_edit is) parted in
+      let above_here : AllByRecursion (λ change. cmp k.now (key_of_change change) ≡ Less) later = subst (λ ed. AllByRecursion (λ change. cmp (key_of_edit ed) (key_of_change change) ≡ Less) later) is above in
+      ap (λ x. x ++ changed cmp (map pair_of greater) later) front
+      ∙ append_assoc (map pair_of p0) (map pair_of lesser) (changed cmp (map pair_of greater) later)
+      ∙ ap (λ x. map pair_of p0 ++ x) (take_merged o k.now (map pair_of rest) (map pair_of lesser) same (map pair_of greater) later parted_here above_here)
       ∙ ap (λ ed. map pair_of p0 ++ changed cmp (map pair_of rest) (change_of ed ∷ later)) (sym is)

@@ -17,3 +17,8 @@ pub mod Edits
 pub mod OtherWords
 pub mod FallInto
 pub mod Blocks
+pub mod Children
+pub mod Forks
+pub mod One
+pub mod EightBytes
+pub mod Fronts

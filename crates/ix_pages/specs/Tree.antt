@@ -1,64 +1,71 @@
--- The pages that a tree stands for.
-use Rattle.std.specs.Prelude.{◌≡◌, ℕ, ◌<◌, ◌≤◌, List, [], ◌∷◌, ◌++◌, length, map, Option, Some, None, slice_get}
+-- The pages of parts that stand side by side, and of forks of them.
+use Rattle.std.specs.Prelude.{◌≡◌, ℕ, ◌<◌, List, [], ◌∷◌, ◌++◌, length, map, Some, slice_get}
+use Rattle.std.specs.List.{AllByRecursion}
 use Rattle.std.specs.declared.sync.Arc.{Arc}
 use Rattle.std.specs.declared.alloc.Global.{Global}
 use Rattle.ix_pages.specs.declared.page.Entry.{Entry}
-use Rattle.ix_pages.specs.declared.tree.Tree.{Tree, Page, Fork'}
-use Rattle.std.specs.declared.cmp.Ordering.{Ordering}
-use Rattle.ix_pages.specs.Paging.{pairs_of, ArePages}
+use Rattle.ix_pages.specs.declared.part.Child.{Child}
+use Rattle.ix_pages.specs.declared.part.Leaf.{Leaf}
+use Rattle.ix_pages.specs.declared.node.Node.{Node}
+use Rattle.ix_pages.specs.Paging.{pairs_of}
 
 module _ {K V : Type 0} where
   -- a pair of the map
   abbrev pub pair_of : Arc (Entry K V) Global → K × V
   pair_of entry = (entry.value.key, entry.value.value)
 
-  -- the pages of a tree, from left to right
-  abbrev pub pages_of : Tree K V → List (List (K × V))
-  pages_of (Page entries) = map pair_of entries.items ∷ []
-  pages_of (Fork' a left least b right size) = pages_of left ++ pages_of right
-
   -- the first of some pairs
   abbrev pub IsFirst : K × V → List (K × V) → Type 0
   IsFirst first pairs = slice_get pairs 0 ≡ Some first
 
-  -- each page has a pair; a fork knows the first pair of its right part, and how many pages and pairs it has
-  abbrev pub IsTree : Tree K V → Type 0
-  IsTree (Page entries) = 0 < length entries.items
-  IsTree (Fork' a left least b right extent) =
-      IsTree left × IsTree right × IsFirst (pair_of least) (pairs_of (pages_of right))
-      × (extent.pages ≡ length (pages_of left ++ pages_of right))
-      × (extent.pairs ≡ length (pairs_of (pages_of left ++ pages_of right)))
+  -- a page alone
+  abbrev pub leaf_pages : Leaf K V → List (List (K × V))
+  leaf_pages leaf = map pair_of leaf.entries.items ∷ []
 
-  -- a tree of these pages
-  pub record IsTreeOf (tree : Tree K V) (pages : List (List (K × V))) : Type 0 where
-    pub whole : IsTree tree
-    pub is : pages_of tree ≡ pages
+  abbrev pub IsLeaf : Leaf K V → Type 0
+  IsLeaf leaf = 0 < length leaf.entries.items
 
-  -- a tree, or none where there is no page
-  abbrev pub IsWhole : Option (Arc (Tree K V) Global) → Type 0
-  IsWhole None = Unit {0}
-  IsWhole (Some tree) = IsTree tree.value
+module _ {K V T : Type 0} where
+  -- the first pairs that some parts are known by
+  abbrev pub leasts : List (Child K V T) → List (K × V)
+  leasts children = map (λ child. pair_of child.least) children
 
-  abbrev pub pages_in : Option (Arc (Tree K V) Global) → List (List (K × V))
-  pages_in None = []
-  pages_in (Some tree) = pages_of tree.value
+  -- the head of each part is that of its first pair's key
+  abbrev pub HaveHeads : (K → K → ℕ → ℕ) → K → ℕ → List (Child K V T) → Type 0
+  HaveHeads head_of base skip children = AllByRecursion (λ child. child.head ≡ head_of child.least.value.key base skip) children
 
-  -- the same of the tree itself
-  abbrev pub IsWholeUnder : Option (Tree K V) → Type 0
-  IsWholeUnder None = Unit {0}
-  IsWholeUnder (Some tree) = IsTree tree
+  -- the same part once more
+  pub record IsSameChild (copy child : Child K V T) : Type 0 where
+    pub head : copy.head ≡ child.head
+    pub least : copy.least.value ≡ child.least.value
+    pub part : copy.part.value ≡ child.part.value
+    pub count : copy.count ≡ child.count
 
-  abbrev pub pages_under : Option (Tree K V) → List (List (K × V))
-  pages_under None = []
-  pages_under (Some tree) = pages_of tree
+module _ {K V T : Type 0} (pages : T → List (List (K × V))) where
+  -- the pages of some parts, from left to right
+  abbrev pub pages_of : List (Child K V T) → List (List (K × V))
+  pages_of [] = []
+  pages_of (child ∷ children) = pages child.part.value ++ pages_of children
 
-  -- what is left of a tree has these pages
-  pub record IsRestOf (rest : Option (Arc (Tree K V) Global)) (pages : List (List (K × V))) : Type 0 where
-    pub whole : IsWhole rest
-    pub is : pages_in rest ≡ pages
+  abbrev pub node_pages : Node K V T → List (List (K × V))
+  node_pages node = pages_of node.children.items
 
-  -- the root of a map whose pages have at most so many pairs
-  pub record IsRoot (cmp : K → K → Ordering) (most : ℕ) (root : Option (Arc (Tree K V) Global)) : Type 0 where
-    pub room : 4 ≤ most
-    pub whole : IsWhole root
-    pub pages : ArePages cmp most (pages_in root)
+  -- a part, its first pair, and how many pages and pairs it has
+  pub record IsChild (whole : T → Type 0) (child : Child K V T) : Type 0 where
+    pub part : whole child.part.value
+    pub first : IsFirst (pair_of child.least) (pairs_of (pages child.part.value))
+    pub page_count : child.count.pages ≡ length (pages child.part.value)
+    pub pair_count : child.count.pairs ≡ length (pairs_of (pages child.part.value))
+
+  abbrev pub AreChildren : (T → Type 0) → List (Child K V T) → Type 0
+  AreChildren whole children = AllByRecursion (IsChild whole) children
+
+  -- such parts, with heads by this base and skip
+  pub record AreKept (whole : T → Type 0) (head_of : K → K → ℕ → ℕ) (base : K) (skip : ℕ) (children : List (Child K V T)) : Type 0 where
+    pub are : AreChildren whole children
+    pub heads : HaveHeads head_of base skip children
+
+  -- a fork has a part, and the heads of its parts are made by its own base and skip
+  pub record IsNode (head_of : K → K → ℕ → ℕ) (whole : T → Type 0) (node : Node K V T) : Type 0 where
+    pub some : 0 < length node.children.items
+    pub kept : AreKept whole head_of node.base.value.key node.skip node.children.items

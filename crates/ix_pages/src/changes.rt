@@ -6,6 +6,7 @@ ghost use Rattle.ix_pages.specs.Changes.{key_of_change, changed, pages_changed, 
 ghost use Rattle.ix_pages.specs.Edits.{change_of};
 
 use crate::bulk::Edit;
+use crate::key::Key;
 use crate::laws;
 use crate::page::Entry;
 use crate::pages::Pages;
@@ -46,7 +47,10 @@ pub fn are_rising<K: Ord, V>(changes: &[Change<K, V>]) -> bool
 }
 
 /// A change as an edit.
-fn edit_of<K: Drop, V: Drop>(alloc: Global, change: Change<K, V>) -> Result<Edit<K, V>, Memory>
+pub(crate) fn edit_of<'k, K: Drop + 'k, V: Drop>(
+    alloc: Global,
+    change: Change<K, V>,
+) -> Result<Edit<'k, K, V>, Memory>
     ensures { IfOk result (λ edit. change_of edit ≡ change) }
 {
     match change {
@@ -59,10 +63,10 @@ fn edit_of<K: Drop, V: Drop>(alloc: Global, change: Change<K, V>) -> Result<Edit
 }
 
 /// Changes as edits.
-fn edits_of<K: Drop, V: Drop>(
+fn edits_of<'k, K: Drop + 'k, V: Drop>(
     alloc: Global,
     changes: Vec<Change<K, V>>,
-) -> Result<Vec<Edit<K, V>>, Memory>
+) -> Result<Vec<Edit<'k, K, V>>, Memory>
     ensures { IfOk result (λ edits. map change_of edits.items ≡ changes.items) }
 {
     let mut edits = Vec::with_capacity(alloc, changes.len())?;
@@ -73,7 +77,7 @@ fn edits_of<K: Drop, V: Drop>(
     Ok(edits)
 }
 
-impl<K: Ord + Drop, V: Drop, const P: usize> Pages<K, V, P> {
+impl<K: Key + Drop, V: Drop, const P: usize> Pages<K, V, P> {
     /// The map after changes whose keys rise, in one go. A page into which no change falls is shared. This one stays.
     pub fn with_all(
         &self,

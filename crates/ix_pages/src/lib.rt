@@ -3,16 +3,19 @@
 
 mod bulk;
 mod changes;
+mod key;
 pub mod laws;
+mod node;
 mod page;
 mod pages;
+mod part;
 mod range;
-mod search;
+mod root;
 #[cfg(test)]
 mod tests;
-mod tree;
 
 pub use changes::{Change, are_rising};
+pub use key::Key;
 pub use page::Entry;
 pub use pages::Pages;
 pub use range::Range;

@@ -1,6 +1,6 @@
 //! A page: some pairs in a row, each behind an `Arc`.
 ghost use Rattle.std.specs.Prelude.{◌≡◌, ◌++◌, map, OnOk, IfOk, option_map, option_copied};
-ghost use Rattle.ix_pages.specs.Pairs.{IsRising, IsParted, with_pair, without_key, look_up, from_key};
+ghost use Rattle.ix_pages.specs.Pairs.{IsRising, IsParted, look_up, from_key};
 ghost use Rattle.std.specs.Option.{option_to_list};
 ghost use Rattle.ix_pages.specs.Tree.{pair_of};
 
@@ -96,54 +96,7 @@ pub(crate) fn fetch<K, V>(entries: &[Arc<Entry<K, V>>]) {
     }
 }
 
-/// The page after a put.
-pub(crate) fn with_entry<K: Ord + Drop, V: Drop>(
-    alloc: Global,
-    entries: &[Arc<Entry<K, V>>],
-    entry: &Arc<Entry<K, V>>,
-) -> Result<Vec<Arc<Entry<K, V>>>, Memory>
-    requires { IsRising K.cmp (map pair_of entries.now) }
-    ensures { IfOk result (λ page. map pair_of page.items ≡ with_pair K.cmp (map pair_of entries.now) (pair_of entry.now)) }
-{
-    fetch(entries);
-    let Parted {
-        lesser,
-        same: _,
-        greater,
-        from: _,
-    } = part(entries, &entry.key);
-    let len = lesser.len().saturating_add(greater.len());
-    let mut page = Vec::with_capacity(alloc, len.saturating_add(1))?;
-    append(&mut page, lesser)?;
-    page.push(Arc::try_clone(entry)?)?;
-    append(&mut page, greater)?;
-    Ok(page)
-}
-
-/// The page after a key is taken away.
-pub(crate) fn without_entry<K: Ord + Drop, V: Drop>(
-    alloc: Global,
-    entries: &[Arc<Entry<K, V>>],
-    key: &K,
-) -> Result<Vec<Arc<Entry<K, V>>>, Memory>
-    requires { IsRising K.cmp (map pair_of entries.now) }
-    ensures { IfOk result (λ page. map pair_of page.items ≡ without_key K.cmp (map pair_of entries.now) key.now) }
-{
-    fetch(entries);
-    let Parted {
-        lesser,
-        same: _,
-        greater,
-        from: _,
-    } = part(entries, key);
-    let len = lesser.len().saturating_add(greater.len());
-    let mut page = Vec::with_capacity(alloc, len)?;
-    append(&mut page, lesser)?;
-    append(&mut page, greater)?;
-    Ok(page)
-}
-
-/// The same of the last pair of each block of eight.
+/// Reads the count of the last pair of each block of eight.
 fn fetch_blocks<K, V>(entries: &[Arc<Entry<K, V>>]) {
     for block in entries.chunks_exact(8) {
         if let Some(last) = block.last() {

@@ -1,17 +1,19 @@
 //! The map. A new version shares with the old one all that didn't change.
-ghost use Rattle.std.specs.Prelude.{◌≡◌, ◌≤◌, [], length, map, slice_get, option_map, option_copied, IfOk};
+ghost use Rattle.std.specs.Prelude.{◌≡◌, ◌≤◌, [], ◌∷◌, length, map, slice_get, option_map, option_copied, IfOk};
 ghost use Rattle.std.specs.Map.Iter.{deref_pair};
 ghost use Rattle.ix_pages.specs.Pairs.{look_up, from_key};
 ghost use Rattle.ix_pages.specs.Paging.{pairs_of, pages_with, pages_without, ArePages};
 ghost use Rattle.ix_pages.specs.Changes.{pages_changed, AreRising};
 ghost use Rattle.ix_pages.specs.Edits.{change_of};
 
-use crate::bulk::{Edit, edited, edited_none};
+use crate::bulk::Edit;
+use crate::changes::{Change, edit_of};
+use crate::key::Key;
 use crate::laws;
 use crate::page::{Entry, entry_at};
+use crate::part::Start;
 use crate::range::Range;
-use crate::search::{Start, entry_of, page_at, page_for, start_at};
-use crate::tree::{Tree, extent_of, put, single, take};
+use crate::root::{Root, edited_none};
 use ix_types::Memory;
 use std::alloc::Global;
 use std::marker::Model;
@@ -19,22 +21,22 @@ use std::sync::Arc;
 
 /// A sorted map in pages of at most `P` pairs, seen as the list of its pages.
 #[derive(Drop)]
-pub struct Pages<K: Ord, V, const P: usize> {
-    root: Option<Arc<Tree<K, V>>>,
+pub struct Pages<K: Key, V, const P: usize> {
+    root: Option<Root<K, V>>,
 }
 
-impl<K: Ord, V, const P: usize> Model for Pages<K, V, P> {
+impl<K: Key, V, const P: usize> Model for Pages<K, V, P> {
     ghost use Rattle.std.specs.Prelude.{List};
-    ghost use Rattle.ix_pages.specs.Tree.{pages_in, IsRoot};
+    ghost use Rattle.ix_pages.specs.Roots.{pages_in, IsRoot};
 
     ghost Value = { List (List (K × V)) };
 
     ghost view = { λ pages. pages_in pages.root };
 
-    ghost invariant = { λ pages. IsRoot K.cmp P pages.root };
+    ghost invariant = { λ pages. IsRoot K.head_of K.cmp P pages.root };
 }
 
-impl<K: Ord + Drop, V: Drop, const P: usize> Pages<K, V, P> {
+impl<K: Key + Drop, V: Drop, const P: usize> Pages<K, V, P> {
     ghost use Rattle.ix_pages.specs.Tree.{pair_of};
 
     /// The map with no pair. Takes no memory.
@@ -52,7 +54,7 @@ impl<K: Ord + Drop, V: Drop, const P: usize> Pages<K, V, P> {
     {
         match &self.root {
             None => 0,
-            Some(root) => extent_of(&**root).pairs,
+            Some(root) => root.count().pairs,
         }
     }
 
@@ -62,7 +64,7 @@ impl<K: Ord + Drop, V: Drop, const P: usize> Pages<K, V, P> {
     {
         match &self.root {
             None => 0,
-            Some(root) => extent_of(&**root).pages,
+            Some(root) => root.count().pages,
         }
     }
 
@@ -72,7 +74,7 @@ impl<K: Ord + Drop, V: Drop, const P: usize> Pages<K, V, P> {
     {
         match &self.root {
             None => None,
-            Some(root) => match entry_at(page_for(&**root, key), key) {
+            Some(root) => match entry_at(root.page_for(key), key) {
                 Some(entry) => Some(&entry.value),
                 None => None,
             },
@@ -83,17 +85,10 @@ impl<K: Ord + Drop, V: Drop, const P: usize> Pages<K, V, P> {
     pub fn with(&self, alloc: Global, key: K, value: V) -> Result<Pages<K, V, P>, Memory>
         ensures { IfOk result (λ after. after ≡ pages_with K.cmp P self.now (key, value)) }
     {
-        let entry = Arc::new(alloc, Entry { key, value })?;
-        match &self.root {
-            None => {
-                let first = single(alloc, &entry)?;
-                Ok(Pages { root: Some(first) })
-            }
-            Some(root) => {
-                let next = put(alloc, P, &**root, &entry)?;
-                Ok(Pages { root: Some(next) })
-            }
-        }
+        self.show();
+        let edit = edit_of(alloc, Change::Put(key, value))?;
+        let after = self.with_one(alloc, edit)?;
+        Ok(after)
     }
 
     /// The map without the key: the same map once more where it hasn't the key. This one stays.
@@ -102,35 +97,51 @@ impl<K: Ord + Drop, V: Drop, const P: usize> Pages<K, V, P> {
     {
         if self.get(key).is_none() {
             laws::an_absent_key_changes_nothing::<K, V>();
-            let _pages = self.len();
+            self.show();
             let same = self.share()?;
             return Ok(same);
         }
-        match &self.root {
-            None => Ok(Pages { root: None }),
-            Some(root) => {
-                let rest = take(alloc, &**root, key)?;
-                Ok(Pages { root: rest })
-            }
-        }
+        self.show();
+        let after = self.with_one(alloc, Edit::Without(key))?;
+        Ok(after)
+    }
+
+    /// What holds of each map.
+    fn show(&self)
+        ensures room { 4 ≤ P }
+        ensures pages { ArePages K.cmp P self.now }
+    {
+        let _root = &self.root;
+    }
+
+    /// The map after an edit. This one stays.
+    fn with_one<'k>(&self, alloc: Global, edit: Edit<'k, K, V>) -> Result<Pages<K, V, P>, Memory>
+        ensures { IfOk result (λ after. after ≡ pages_changed K.cmp P self.now (change_of edit.entry ∷ [])) }
+    {
+        let mut edits = Vec::with_capacity(alloc, 1)?;
+        edits.push(edit)?;
+        self.with_edits(alloc, &edits)
     }
 
     /// The map after edits. This one stays.
     pub(crate) fn with_edits(
         &self,
         alloc: Global,
-        edits: &[Edit<K, V>],
+        edits: &[Edit<'_, K, V>],
     ) -> Result<Pages<K, V, P>, Memory>
         requires { AreRising K.cmp (map change_of edits.now) }
         ensures { IfOk result (λ after. after ≡ pages_changed K.cmp P self.now (map change_of edits.now)) }
     {
+        if edits.is_empty() {
+            return self.share();
+        }
         match &self.root {
             None => {
                 let first = edited_none(alloc, P, edits)?;
                 Ok(Pages { root: first })
             }
             Some(root) => {
-                let rest = edited(alloc, P, root, edits)?;
+                let rest = root.edited(alloc, P, edits)?;
                 Ok(Pages { root: rest })
             }
         }
@@ -144,7 +155,7 @@ impl<K: Ord + Drop, V: Drop, const P: usize> Pages<K, V, P> {
         match &self.root {
             None => Ok(Pages { root: None }),
             Some(root) => {
-                let root = Arc::try_clone(root)?;
+                let root = root.share()?;
                 Ok(Pages { root: Some(root) })
             }
         }
@@ -156,7 +167,7 @@ impl<K: Ord + Drop, V: Drop, const P: usize> Pages<K, V, P> {
     {
         match &self.root {
             None => None,
-            Some(root) => page_at(&**root, place),
+            Some(root) => root.page_at(place),
         }
     }
 
@@ -166,7 +177,7 @@ impl<K: Ord + Drop, V: Drop, const P: usize> Pages<K, V, P> {
     {
         match &self.root {
             None => None,
-            Some(root) => match entry_of(&**root, place) {
+            Some(root) => match root.entry_of(place) {
                 Some(entry) => Some((&entry.key, &entry.value)),
                 None => None,
             },
@@ -186,7 +197,7 @@ impl<K: Ord + Drop, V: Drop, const P: usize> Pages<K, V, P> {
     {
         match &self.root {
             None => Range::new(&[], 0, None),
-            Some(root) => Range::new(&[], 0, Some(&**root)),
+            Some(root) => Range::new(&[], 0, Some(root)),
         }
     }
 
@@ -197,8 +208,8 @@ impl<K: Ord + Drop, V: Drop, const P: usize> Pages<K, V, P> {
         match &self.root {
             None => Range::new(&[], 0, None),
             Some(root) => {
-                let Start { page, behind } = start_at(&**root, key);
-                Range::new(page, behind, Some(&**root))
+                let Start { page, behind } = root.start_at(key);
+                Range::new(page, behind, Some(root))
             }
         }
     }

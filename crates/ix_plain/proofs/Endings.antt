@@ -8,7 +8,6 @@ use Rattle.ix_dir.specs.Crash.{standing}
 use Rattle.ix_machine.specs.declared.event.Event.{Event}
 use Rattle.ix_opening.specs.Found.{opening_of}
 use Rattle.ix_plan.specs.declared.plan.Script.{Script}
-use Rattle.ix_plan.specs.Reading.{script_of}
 use Rattle.ix_replay.specs.Left.{IsLeft}
 use Rattle.ix_replay.specs.declared.replaying.ReplayError.{ReplayError}
 use Rattle.ix_replays.specs.declared.transcript.Transcript.{Transcript}
@@ -18,7 +17,7 @@ use Rattle.ix_counts.specs.Counting.{RoseBy, failures, is_failure}
 use Rattle.ix_plain.specs.declared.ending.Ending.{Ending}
 use Rattle.ix_plain.specs.declared.ending.Ending.TheVariants.{Done, BadScript, DirFault, WriteFault, Memory, TooLarge, OpenFault, StoreDamaged}
 use Rattle.ix_plain.specs.Ending.{MayRun, Stayed, after_events, is_whole, is_write_fault}
-use Rattle.ix_plain.specs.Output.{Leaves}
+use Rattle.ix_plain.specs.Output.{LeavesOf}
 
 abbrev OnlyTrue : Bool → Type 0
 OnlyTrue true = Unit {0}
@@ -29,21 +28,16 @@ OnlyTrue false = ⊥
 abbrev LeftBy : Script → List Move → Option (List Move) → Transcript → Type 0
 LeftBy script before later transcript = (replay : IsReplay sha_name script (opening_of sha_name (standing before)) transcript) × (now : List Move) × (later ≡ Some now) × IsLeft sha_name before replay.run now
 
-leaves : (bytes : List ℕ) (script : Script) (before : List Move) (later : Option (List Move)) (transcript : Transcript) → script_of bytes ≡ Ok script → LeftBy script before later transcript → Leaves bytes before transcript later
-leaves bytes script before later transcript spelled (replay, now, told, left) = record {
-  shown = record { script = script; spelled = spelled; replay = replay };
-  now = now;
-  told = told;
-  left = left;
-}
+leaves : (script : Script) (before : List Move) (later : Option (List Move)) (transcript : Transcript) → LeftBy script before later transcript → LeavesOf script before transcript later
+leaves script before later transcript (replay, now, told, left) = record { replay = replay; now = now; told = told; left = left }
 
-pub leaves_in : (bytes : List ℕ) (script : Script) (moves : Option (List Move)) (shown : Option Transcript) (transcript : Transcript) (result : Result Transcript ReplayError) (later mid : Option (List Move))
-    → script_of bytes ≡ Ok script → shown ≡ Some transcript → later ≡ mid → result ≡ Ok transcript
-    → IfSome moves (λ before. IfOk result (LeftBy script before mid)) → IfSome moves (λ before. IfSome shown (λ t. Leaves bytes before t later))
-leaves_in bytes script None shown transcript result later mid spelled some same ok left = tt
-leaves_in bytes script (Some before) shown transcript result later mid spelled some same ok left =
-    subst (λ (o : Option Transcript). IfSome o (λ t. Leaves bytes before t later)) (sym some)
-    (leaves bytes script before later transcript spelled
+pub leaves_in : (script : Script) (moves : Option (List Move)) (shown : Option Transcript) (transcript : Transcript) (result : Result Transcript ReplayError) (later mid : Option (List Move))
+    → shown ≡ Some transcript → later ≡ mid → result ≡ Ok transcript
+    → IfSome moves (λ before. IfOk result (LeftBy script before mid)) → IfSome moves (λ before. IfSome shown (λ t. LeavesOf script before t later))
+leaves_in script None shown transcript result later mid some same ok left = tt
+leaves_in script (Some before) shown transcript result later mid some same ok left =
+    subst (λ (o : Option Transcript). IfSome o (λ t. LeavesOf script before t later)) (sym some)
+    (leaves script before later transcript
     (subst (λ (o : Option (List Move)). LeftBy script before o transcript) (sym same)
     (subst (λ (r : Result Transcript ReplayError). IfOk r (LeftBy script before mid)) ok left)))
 

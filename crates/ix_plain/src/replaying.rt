@@ -15,7 +15,7 @@ ghost use Rattle.ix_replays.specs.Text.{transcript_text};
 ghost use Rattle.ix_transcripts.specs.Sending.{WritesFront};
 ghost use Rattle.ix_counts.specs.Counting.{RoseBy, failures, loads, scans};
 ghost use Rattle.ix_plain.specs.Ending.{MayEnd, MayRun, Stayed, after_events, ending_for, is_refused, is_whole, is_write_fault, max_input, status_of};
-ghost use Rattle.ix_plain.specs.Output.{IsReplayOf, Leaves, StopsFor};
+ghost use Rattle.ix_plain.specs.Output.{IsReplayOf, Leaves, LeavesOf, StopsFor, StopsOf};
 
 use crate::ending::{Ending, after_events};
 use ix_dir::Dir;
@@ -89,6 +89,8 @@ pub fn replay_bytes<K: Sink, D: Dir>(alloc: Global, bytes: &[u8], sink: &mut K, 
 }
 
 /// Replays a script over the directory, and writes the transcript's text.
+///
+/// The order is opening, the run, writing, and then what the events say; memory may be wanting at any place.
 pub fn replay_script<K: Sink, D: Dir>(
     alloc: Global,
     script: &Script,
@@ -97,25 +99,36 @@ pub fn replay_script<K: Sink, D: Dir>(
 ) -> Ended<D>
     requires { IsAccepted script.now }
     ensures status { result.status ≡ status_of result.ending }
+
+    // What was written is the text of the transcript.
     ensures written { is_whole result.ending ≡ true → IfSome result.transcript (λ transcript. Appends (K.contents sink.old) (K.contents sink.new) (transcript_text transcript)) }
     ensures front { is_whole result.ending ≡ false → IfSome result.transcript (λ transcript. WritesFront (K.contents sink.old) (K.contents sink.new) (transcript_text transcript)) }
     ensures nothing { result.transcript ≡ None → K.contents sink.new ≡ K.contents sink.old }
-    ensures replayed { (bytes : List ℕ) → script_of bytes ≡ Ok script.now → IfSome (D.state dir).moves (λ moves. IfSome result.transcript (IsReplayOf bytes moves)) }
-    ensures left { (bytes : List ℕ) → script_of bytes ≡ Ok script.now → IfSome (D.state dir).moves (λ before. IfSome result.transcript (λ transcript. Leaves bytes before transcript (D.state result.dir).moves)) }
-    ensures replays { IfSome (D.state dir).moves (λ moves. IfSome result.transcript (IsReplay sha_name script.now (opening_of sha_name (standing moves)))) }
+
+    // Over a directory that tells its moves the transcript is that of a replay, which leaves the moves of its run, and misses no file.
+    ensures replayed { IfSome (D.state dir).moves (λ moves. IfSome result.transcript (IsReplay sha_name script.now (opening_of sha_name (standing moves)))) }
+    ensures left { IfSome (D.state dir).moves (λ before. IfSome result.transcript (λ transcript. LeavesOf script.now before transcript (D.state result.dir).moves)) }
     ensures sound { IfSome (D.state dir).moves (λ moves. result.ending ≢ Ending.StoreDamaged) }
+
+    // The script isn't refused, and the events of a text that was written whole say how the replay ended.
     ensures exact { MayEnd Ending.Done result.ending }
     ensures read { is_refused result.ending ≡ false }
     ensures ran { MayRun result.ending (is_some result.transcript) }
     ensures told { is_whole result.ending ≡ true → IfSome result.transcript (λ transcript. result.ending ≡ after_events transcript.events) }
+
+    // Each fault is counted where it comes from.
     ensures open_fault { result.ending ≡ Ending.OpenFault → (D.state result.dir).faults ≡ counted (D.state dir).faults }
     ensures write_fault { CountsWhere (is_write_fault result.ending) (K.faults sink.old) (K.faults sink.new) }
     ensures failures { IfSome result.transcript (λ transcript. RoseBy (failures transcript.events) (D.state dir).faults (D.state result.dir).faults) }
     ensures finds { IfSome result.transcript (λ transcript. RoseBy (loads transcript.events) (D.state dir).finds (D.state result.dir).finds) }
     ensures listings { IfSome result.transcript (λ transcript. RoseBy (1 + scans transcript.events) (D.state dir).listings (D.state result.dir).listings) }
+
+    // Where no count rose it ends in Done or for want of memory; over a directory that doesn't tell its moves it may miss a file besides.
     ensures untold { Stayed (D.state dir).faults (D.state result.dir).faults → Stayed (K.faults sink.old) (K.faults sink.new)
         → (result.ending ≡ Ending.Done) ⊎ (result.ending ≡ Ending.Memory) ⊎ (result.ending ≡ Ending.StoreDamaged) }
-    ensures stopped { (bytes : List ℕ) → script_of bytes ≡ Ok script.now → result.transcript ≡ None → IfSome (D.state dir).moves (λ before. StopsFor bytes before (D.state result.dir).moves) }
+
+    // What a replay without a run leaves in the directory.
+    ensures stopped { result.transcript ≡ None → IfSome (D.state dir).moves (λ before. StopsOf script.now before (D.state result.dir).moves) }
 {
     ix_replay::laws::names_of_digests_are_file_names();
     let Replayed { dir, result } = replay(alloc, dir, Sha, script);

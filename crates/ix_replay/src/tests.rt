@@ -1,4 +1,4 @@
-//! The worked rows: each script's transcript, to the byte.
+//! Worked cases: each script's transcript, to the byte.
 use super::*;
 use ix_dir::{Area, MemoryDir, Pick};
 use ix_io::MemorySink;

@@ -7,7 +7,8 @@ use Rattle.ix_machine.specs.declared.event.Outcome.{Outcome}
 use Rattle.ix_machine.specs.declared.event.Outcome.TheVariants.{Done, Written, Shared, Clash, Synced, Unsynced, NoUnit, At, Removed, Nothing, Fault, Lost, Damaged}
 use Rattle.ix_lanes.specs.Tasks.{Task}
 use Rattle.ix_lanes.specs.Tasks as task
-use Rattle.ix_lanes.specs.Progress.{Progress, told, settled, settled_over, answered, ended_at, noted, with_some, is_done, loaded_by, after_event}
+use Rattle.ix_lanes.specs.Progress.{Progress, told, settled, settled_over, answered, ended_at, noted, with_some, loaded_by, after_event}
+use Rattle.ix_machine.specs.Outcomes.{is_done}
 use Rattle.std.proofs.lemmas.List.{length-set}
 use Rattle.ix_machine.specs.Given.{Given}
 use Rattle.ix_machine.specs.Given as given

@@ -22,7 +22,8 @@ use Rattle.ix_lanes.specs.declared.answered.Answered.{Answered}
 use Rattle.ix_lanes.specs.declared.doing.Doing.{Doing}
 use Rattle.ix_lanes.specs.Calls.{next_call, ask_call}
 use Rattle.ix_lanes.specs.Tasks.{Task, Build, Remove, Poll, Refresh, Ask, Release, Collect}
-use Rattle.ix_lanes.specs.Progress.{Progress, answered, ended_at, is_asking, is_done, loaded_by, noted, settled, settled_over, told, with_loaded, with_some}
+use Rattle.ix_lanes.specs.Progress.{Progress, answered, ended_at, is_asking, loaded_by, noted, settled, settled_over, told, with_loaded, with_some}
+use Rattle.ix_machine.specs.Outcomes.{is_done}
 use Rattle.ix_seats.specs.Seated.{Seated, asked}
 use Rattle.ix_seats.specs.Seats.{HasVersion, IsSeat, lacks}
 

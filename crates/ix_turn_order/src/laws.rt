@@ -1,9 +1,7 @@
 //! Laws of the definitions, each the contract of a function that does nothing.
-ghost use Rattle.std.specs.Prelude.{◌≡◌, ◌≢◌, ◌<◌, ◌≤◌, ◌+◌, ◌-◌, ◌^◌, ◌++◌, ◌∷◌, ℕ, filter, Bool, true, false, List, [], length, is_some, slice_get, IfSome, Some, None};
+ghost use Rattle.std.specs.Prelude.{◌≡◌, ◌≢◌, ◌<◌, ◌≤◌, ◌∷◌, ℕ, Bool, true, false, List, [], length, is_some, slice_get, IfSome, Some, None};
 ghost use Rattle.ix_lanes.specs.Tasks.{Task};
-ghost use Rattle.ix_machine.specs.declared.event.Event.{Event};
 ghost use Rattle.ix_machine.specs.declared.event.Outcome.{Outcome};
-ghost use Rattle.ix_machine.specs.declared.event.Outcome.TheVariants.{Done, Written, Shared, Clash, Synced, Unsynced, NoUnit, At, Removed, Nothing, Fault, Lost, Damaged};
 ghost use Rattle.ix_machine.specs.Given.{Given};
 ghost use Rattle.ix_machine.specs.Needs.{seen_at};
 ghost use Rattle.ix_machine.specs.Run.{Opening};

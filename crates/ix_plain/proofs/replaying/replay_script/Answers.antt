@@ -2,9 +2,9 @@ use Rattle.ix_plain.proofs.Endings.{ends_quietly, leaves_in, never_damaged, rose
 use Rattle.ix_plain.proofs.replaying.replay_script.Goals as goal
 
 pub returns-in-Ok-clause-left : goal.returns-in-Ok-clause-left
-returns-in-Ok-clause-left g c bytes spelled =
-    leaves_in bytes c.args.script.now (g.D.Dir.state c.args.dir).moves _ c.in-Ok.transcript c.replay-dir.result.result _ (g.D.Dir.state c.replay-dir.result.dir).moves
-    spelled c.answered.ensures.transcript (λ i. (g.D.Dir.state (c.answered.ensures.dir i)).moves) c.in-Ok.is c.replay-dir.ensures.left
+returns-in-Ok-clause-left g c =
+    leaves_in c.args.script.now (g.D.Dir.state c.args.dir).moves _ c.in-Ok.transcript c.replay-dir.result.result _ (g.D.Dir.state c.replay-dir.result.dir).moves
+    c.answered.ensures.transcript (λ i. (g.D.Dir.state (c.answered.ensures.dir i)).moves) c.in-Ok.is c.replay-dir.ensures.left
 
 pub returns-in-Ok-clause-sound : goal.returns-in-Ok-clause-sound
 returns-in-Ok-clause-sound g c =

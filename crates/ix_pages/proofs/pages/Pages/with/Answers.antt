@@ -1,12 +1,11 @@
-use Rattle.std.proofs.Common.{Some, subst}
-use Rattle.ix_pages.specs.Paging.{pages_with}
-use Rattle.ix_pages.specs.Tree.{pair_of, pages_of, IsTreeOf, IsRoot}
-use Rattle.ix_pages.proofs.Roots.{root_with}
+use Rattle.std.proofs.Common.{◌∙◌, [], ◌∷◌, ap, arith}
+use Rattle.ix_pages.specs.Changes.{pages_changed}
+use Rattle.ix_pages.proofs.One.{one_put}
 use Rattle.ix_pages.proofs.pages.Pages.with.Goals as goal
 
-pub invariant_of-result-in-Some : goal.invariant_of-result-in-Some
-invariant_of-result-in-Some g c =
-    let next = c.in_ok-next-in-Some.next in
-    let new = pair_of c.in_ok-entry.entry in
-    let made = subst (λ tree. IsTreeOf next.value (pages_with g.K.Ord.cmp g.row.P (pages_of tree) new)) c.deref.ensures c.in_ok-next-in-Some.ensures in
-    root_with g.met.K.Ord.total g.row.P (Some c.in-Some.root) next new (subst (IsRoot g.K.Ord.cmp g.row.P) c.in-Some.is c.self.invariant) made
+pub returns : goal.returns
+returns g c =
+    let room = c.show.ensures.room in
+    c.in_ok-after.ensures
+    ∙ ap (λ change. pages_changed g.K.Ord.cmp g.row.P c.args.self.now (change ∷ [])) c.in_ok-edit.ensures
+    ∙ one_put g.K.Ord.cmp g.row.P c.args.self.now c.args.key c.args.value (omega (arith, room)) c.show.ensures.pages.sized
