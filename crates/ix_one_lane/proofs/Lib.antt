@@ -1,0 +1,5 @@
+mod Goes
+mod Polled
+mod Built
+mod Runs
+mod Rows
