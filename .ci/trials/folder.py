@@ -213,6 +213,85 @@ def kills():
     return f"{KILLS} kills; from {min(seen)} to {max(seen)} of {len(steps)} builds stood; {left_slots} left a file in slots"
 
 
+def flipped(file):
+    """Changes the last bit of a file."""
+    with open(file, "r+b") as it:
+        it.seek(-1, os.SEEK_END)
+        byte = it.read(1)[0]
+        it.seek(-1, os.SEEK_END)
+        it.write(bytes([byte ^ 1]))
+
+
+def replaced(file, make):
+    make(f"{file}.new")
+    os.rename(f"{file}.new", file)
+
+
+# What becomes of a record, in one step each, and how a load says so.
+DEEDS = ((os.unlink, "lost"), (lambda file: replaced(file, lambda to: os.symlink("/dev/null", to)), "lost"), (flipped, "damaged"), (lambda file: replaced(file, lambda to: open(to, "wb").close()), "damaged"))
+
+
+def losses():
+    """A record that goes or is damaged at a random moment of a run that builds and asks: from then on its asks say so, with status 9, and all else is as if nothing had happened."""
+    count, chance = int(os.environ.get("LOSSES", "40")), random.Random(int(os.environ.get("SEED", "1")))
+    steps = [{"do": "poll"}]
+    for at in range(120):
+        # Taken up anew, a version has no record loaded: each of these asks loads one.
+        steps += [build(100 + at, f"v{at % 30}"), {"do": "refresh"}, {"do": "ask", "query": "def", "usr": f"s:f{at % 3}"}, {"do": "ask", "query": "def", "usr": f"s:f{3 + at % 5}"}]
+    script, victim, first = one_lane(*steps), build(0, "u0"), f"units/{model.sha(b'v0')}"
+    record = model.sha(model.record_bytes(model.record_of(victim["unit"]["records"][0]), 1))
+    took, asks = 0, []
+    for number in range(-1, count):
+        folder = place("losses") + "/store"
+        wanted(run(folder, ["replay"], one_lane(*(build(at, f"u{at}") for at in range(8))))[0], 0, "the first builds")
+        store = model.Store.of_folder(folder)
+        should = model.replay(script, store).splitlines()
+        with open(f"{ROOM}/script", "w") as it:
+            json.dump(script, it)
+        with open(f"{ROOM}/script") as text, open(f"{ROOM}/out", "w+") as out:
+            ran = subprocess.Popen([PROGRAM, folder, "replay"], stdin=text, stdout=out, stderr=subprocess.PIPE, text=True)
+            # The import is over once something is built.
+            while not os.path.exists(f"{folder}/{first}") and ran.poll() is None:
+                time.sleep(0.001)
+            begun = time.monotonic()
+            if number >= 0:
+                time.sleep(chance.uniform(0, took))
+                deed, word = DEEDS[number % len(DEEDS)]
+                deed(f"{folder}/records/{record}")
+            error = ran.communicate()[1]
+            out.seek(0)
+            came = out.read().splitlines()
+        if number < 0:
+            took = time.monotonic() - begun
+            wanted((came, ran.returncode, error), (should, 0, ""), "a run in which nothing is lost")
+            continue
+        loads = [at for at, line in enumerate(should) if line == f"0 load {record} ok" and at > should.index("0 install 8")]
+        bad = [at for at in loads if came[at:at + 1] != [should[at]]]
+        wanted(bad, loads[len(loads) - len(bad):], f"loss {number}: a load that comes after a bad one is bad")
+        # Where the record goes between the look at it and its opening, the folder failed in that one load.
+        words = {at: "fault" if at == bad[0] and came[at].endswith(" fault") else word for at in bad}
+        made = [at for at, line in enumerate(should) if line.startswith("0 load ") and at > should.index("0 install 8")]
+        lines, rows = [f"0 load {record} {words[at]}" if at in words else line for at, line in enumerate(should)], True
+        for at, line in enumerate(lines):
+            if line.startswith("ask "):
+                load = made[int(line.split()[2])]
+                rows = load not in words
+                lines[at] = line if rows else f"{line[:line.index(' rows ')]} {words[load]}"
+            elif line.startswith("row\t") and not rows:
+                lines[at] = None
+        ending = (9, "a file of the store was lost or damaged during the run\n") if word in words.values() else (3, "directory fault during the run\n") if words else (0, "")
+        wanted((ran.returncode, error, came), (*ending, [line for line in lines if line is not None]), f"loss {number}")
+        stands = model.Store.of_folder(folder)
+        others = lambda of: {name: data for name, data in of.records.items() if name != record}
+        wanted((stands.units, others(stands), os.listdir(f"{folder}/slots")), (store.units, others(store), []), f"loss {number}: the files")
+        wanted((record in stands.records, stands.records.get(record) == store.records[record]), (word == "damaged", False), f"loss {number}: the record stays as it was left")
+        wanted(run(folder, ["check"]), (0, model.check(stands), ""), f"loss {number}: check")
+        again = one_lane(victim, {"do": "poll"}, *(step for step in steps if step["do"] == "ask"))
+        wanted(run(folder, ["replay"], again), (0, model.replay(again, stands), ""), f"loss {number}: its build brings it back")
+        asks.append(len(bad))
+    return f"{count} losses; from {min(asks)} to {max(asks)} of {len(loads)} asks met them"
+
+
 def mounted(at, options):
     subprocess.run(["mount", "-t", "tmpfs", "-o", options, "tmpfs", at], check=True)
 
@@ -409,7 +488,7 @@ def random_script(chance):
     return {"format": format_, "lanes": plans, "order": [chance.randrange(lanes) for _ in range(chance.randint(0, 60))]}
 
 
-TRIALS = {it.__name__: it for it in (order, lanes, kills, full_disk, read_only, odd_folders, links, foreign, side_by_side, syscalls)}
+TRIALS = {it.__name__: it for it in (order, lanes, kills, losses, full_disk, read_only, odd_folders, links, foreign, side_by_side, syscalls)}
 
 
 def main():
